@@ -1,0 +1,12 @@
+pub mod Packs
+pub mod Words
+pub mod Right
+pub mod Places
+pub mod Meeting
+pub mod Numbers
+pub mod ByNumber
+pub mod Reading
+pub mod Counts
+pub mod Suffixes
+pub mod Evaluating
+pub mod Applying

@@ -1,0 +1,10 @@
+pub mod Bits
+pub mod Ltlf
+pub mod Forecasts
+pub mod Automaton
+pub mod Numbering
+pub mod Operators
+pub mod Prefix
+pub mod Grammar
+pub mod Evaluation
+pub mod Theorems

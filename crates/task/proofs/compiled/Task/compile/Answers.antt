@@ -1,0 +1,58 @@
+use mathlib.Core.Path.{_≡_, sym, _∙_, ap, subst}
+use mathlib.Core.List.{List}
+use Prim.Native.Nat.{ℕ, _^_, _<_, _≤_}
+use native.Mathlib.Omega.{arith}
+use lib.ListN.{length}
+use Rattle.std.proofs.shelf.Results.{err-from-errBy}
+use Rattle.ltlf.specs.declared.operator.Operator.{Operator}
+use Rattle.ltlf.specs.Grammar.{Writes}
+use Rattle.ltlf.specs.Numbering.{states}
+use Rattle.ltlf.specs.Prefix.{meaning}
+use Rattle.ltlf.proofs.Numbers.{numbers-states}
+use Rattle.task.specs.Tables.{Tabulates}
+use Rattle.task.specs.Written.{formulaOf}
+use Rattle.task.proofs.Compiling.{many-states, few-states, no-formula, checked-writes, at-letters, same-states, listed-few}
+use Rattle.task.proofs.compiled.Task.compile.Needs as need
+
+pub returns-in-Break-formula : need.returns-in-Break-formula
+returns-in-Break-formula c =
+    let os = c .args .operators .now in
+    let p = c .args .marks in
+    let e = err-from-errBy (c .from-residual .result) (c .from-residual .ensures .1) in
+    rw (e .1, e .2) (record {
+      answer = c .in-Break-formula .ensures tt _;
+      grammar = no-formula p os (c .in-Break-formula .field-0 .0) (c .in-Break-formula .ensures tt);
+      numbering = numbers-states (meaning os) (2 ^ p) })
+
+pub returns-in-rest : need.returns-in-rest
+returns-in-rest c =
+    let os = c .args .operators .now in
+    let p = c .args .marks in
+    let f = c .in-Continue-formula .formula in
+    let ok = c .in-Continue-formula .ensures tt in
+    let many = at-letters f (c .letter-count .result) (c .letters .result) (λ g n. 64 < length (states g n)) (c .letter-count .ensures .is) (c .letters .ensures) (c .in-rest .ensures tt) in
+    record {
+      answer = many-states p os (ok .0) (omega (arith, many, ap length (same-states f p os (ok .1) (ok .2))));
+      grammar = λ e. let z : _≡_ {A = ℕ} 0 1 = cc in let none : ⊥ = omega arith in absurd none;
+      numbering = numbers-states (meaning os) (2 ^ p) }
+
+pub ghost-result : need.ghost-result
+ghost-result c =
+    let f = c .in-Continue-formula .formula in
+    let t = c .in-Some .tables in
+    let right = at-letters f (c .letter-count .result) (c .letters .result) (λ g n. Tabulates g n t) (c .letter-count .ensures .is) (c .letters .ensures) (c .in-Some .ensures tt) in
+    (right .lists, (right .starts, (λ q a h. right .steps q a (h .0) (h .1), (c .ending-ending .ensures .value, (c .ending-ending .ensures .small, tt)))))
+
+pub returns : need.returns
+returns c =
+    let os = c .args .operators .now in
+    let p = c .args .marks in
+    let f = c .in-Continue-formula .formula in
+    let t = c .in-Some .tables in
+    let ok = c .in-Continue-formula .ensures tt in
+    let right = at-letters f (c .letter-count .result) (c .letters .result) (λ g n. Tabulates g n t) (c .letter-count .ensures .is) (c .letters .ensures) (c .in-Some .ensures tt) in
+    let W : List Operator → Type 0 = λ x. Writes x (formulaOf f) in
+    record {
+      answer = (few-states p os (ok .0) (listed-few (t .numbered) (states (meaning os) (2 ^ p)) (right .lists ∙ same-states f p os (ok .1) (ok .2))), ok .1, ok .2);
+      grammar = subst W (ok .1) (checked-writes f);
+      numbering = numbers-states (meaning os) (2 ^ p) }

@@ -1,0 +1,10 @@
+use mathlib.Core.Path.{_≡_}
+use Prim.Native.Nat.{ℕ, _<_}
+use lib.ListN.{length, getD}
+use Rattle.task.specs.declared.letter.Letter.{Letter}
+use Rattle.task.specs.Acts.{ActsAll}
+use Rattle.task.specs.Written.{formulaOf}
+use Rattle.task.proofs.formula.Formula.letters.Given as given
+
+abbrev pub Inv-loop-a : given.InvT-loop-a
+Inv-loop-a l = (length (l .letters) ≡ 64) × ActsAll (formulaOf (l .self)) (l .a) (l .letters)
