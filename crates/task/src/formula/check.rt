@@ -68,7 +68,7 @@ fn held(operators: &[Operator]) -> [Operator; 64]
 
 impl Formula {
     // The formula, or the first of its questions that is answered no.
-    pub fn check(marks: u8, operators: &[Operator]) -> Result<Formula, Fault>
+    pub(crate) fn check(marks: u8, operators: &[Operator]) -> Result<Formula, Fault>
         ensures { λ r. ⌜ Cases r
             (λ f. ((later : Option Fault) → formulaFault marks (now (operators .entry)) later ≡ later)
                 × (written f ≡ now (operators .entry)) × (f .marks ≡ marks))
@@ -95,13 +95,13 @@ impl Formula {
         })
     }
 
-    pub fn marks(&self) -> u8
+    pub(crate) fn marks(&self) -> u8
         ensures { λ r. ⌜ r ≡ now (self .entry) .marks ⌝ }
     {
         self.marks
     }
 
-    pub fn operators(&self) -> &[Operator]
+    pub(crate) fn operators(&self) -> &[Operator]
         ensures { λ r. ⌜ now r ≡ written (now (self .entry)) ⌝ }
     {
         &self.operators[0..self.count]

@@ -10,7 +10,7 @@ use ltlf::operator::Operator;
 
 impl Formula {
     // What a letter does to the states: the formula evaluated once, for all forecasts.
-    pub fn letter(&self, letter: u8) -> Letter
+    pub(crate) fn letter(&self, letter: u8) -> Letter
         ensures { λ r. ⌜ Acts (formulaOf (now (self .entry))) letter r ⌝ }
     {
         let mut words = Words::none(self.temporals);
@@ -21,7 +21,7 @@ impl Formula {
     }
 
     // How many letters there are: one for each set of marks.
-    pub fn letter_count(&self) -> usize
+    pub(crate) fn letter_count(&self) -> usize
         ensures is { λ r. ⌜ r ≡ 2 ^ now (self .entry) .marks ⌝ }
         ensures few { λ r. ⌜ r ≤ 64 ⌝ }
     {
@@ -29,7 +29,7 @@ impl Formula {
     }
 
     // What each letter does, at its place.
-    pub fn letters(&self) -> [Letter; 64]
+    pub(crate) fn letters(&self) -> [Letter; 64]
         ensures { λ r. ⌜ ActsAll (formulaOf (now (self .entry))) (2 ^ now (self .entry) .marks) r ⌝ }
     {
         let mut letters = [self.letter(0); 64];
@@ -40,7 +40,7 @@ impl Formula {
     }
 
     // The end forecast: a 1 for each weak, from the last temporal operator to the first.
-    pub fn ending(&self) -> u8
+    pub(crate) fn ending(&self) -> u8
         ensures value { λ r. ⌜ r ≡ ending (formulaOf (now (self .entry))) ⌝ }
         ensures small { λ r. ⌜ r < 64 ⌝ }
     {

@@ -65,7 +65,7 @@ fn upper(earlier: &[u64; 6], forecasts: u64, j: u64) -> u64
 
 impl Letter {
     // The tables of a letter, from the truth of a formula and the bits of the earlier forecast under each forecast.
-    pub fn new(truth: u64, earlier: &[u64; 6], temporals: usize) -> Letter
+    pub(crate) fn new(truth: u64, earlier: &[u64; 6], temporals: usize) -> Letter
         requires few { ⌜ temporals ≤ 6 ⌝ }
         ensures { λ r. ⌜ ((f : Ltlf) (a : ℕ) → temporal f ≡ temporals
             → ((w : ℕ) → w < 64 → bit w truth ≡ Rattle.ltlf.specs.Forecasts.truth f 0 a w)
@@ -87,14 +87,14 @@ impl Letter {
     }
 
     // The state after this letter, as the first.
-    pub fn first(&self) -> u64
+    pub(crate) fn first(&self) -> u64
         ensures { λ r. ⌜ ((f : Ltlf) (a : ℕ) → Acts f a (now (self .entry)) → r ≡ first f a) ⌝ }
     {
         self.first
     }
 
     // The state after this letter, from another.
-    pub fn next(&self, state: u64) -> u64
+    pub(crate) fn next(&self, state: u64) -> u64
         ensures { λ r. ⌜ ((f : Ltlf) (a : ℕ) → temporal f ≤ 6 → Acts f a (now (self .entry)) → r ≡ step f state a) ⌝ }
     {
         let mut next = 0;

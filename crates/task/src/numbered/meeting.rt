@@ -15,7 +15,7 @@ fn hint_place(state: u64) -> usize
 }
 
 impl Numbered {
-    pub fn none() -> Numbered
+    pub(crate) fn none() -> Numbered
         ensures { λ r. ⌜ r .count ≡ 0 ⌝ }
     {
         Numbered { states: [0; 64], count: 0, hints: [0; 256] }
@@ -34,7 +34,7 @@ impl Numbered {
     }
 
     // The number of a state, or the count where it has none.
-    pub fn number(&self, state: u64) -> usize
+    pub(crate) fn number(&self, state: u64) -> usize
         ensures { λ r. ⌜ r ≡ placeOf state (listed (now (self .entry))) ⌝ }
     {
         let q = self.hints[hint_place(state)] as usize;
@@ -45,7 +45,7 @@ impl Numbered {
     }
 
     // Gives a state its number, a new one where it is met for the first time; none where all 64 are given.
-    pub fn meet(&mut self, state: u64) -> Option<u8>
+    pub(crate) fn meet(&mut self, state: u64) -> Option<u8>
         ensures { λ r. ⌜ Cases r
             ((64 < length (meetOf (listed (now (self .entry))) state)) × (now (self .exit) ≡ now (self .entry)))
             (λ q. (q < 64) × (q ≡ placeOf state (listed (now (self .entry))))

@@ -49,7 +49,7 @@ impl Tables {
     }
 
     // The states over the letters below count, and what each letter does; none where there are more than 64 states.
-    pub fn build(letters: &[Letter; 64], count: usize) -> Option<Tables>
+    pub(crate) fn build(letters: &[Letter; 64], count: usize) -> Option<Tables>
         requires few { ⌜ count ≤ 64 ⌝ }
         ensures { λ r. ⌜ ((f : Ltlf) → temporal f ≤ 6 → ActsAll f count (now (letters .entry)) → Cases r
             (64 < length (statesOf f count))

@@ -70,7 +70,7 @@ impl Words {
     }
 
     // The words with one operator more in front.
-    pub fn apply(&mut self, operator: Operator, letter: u8)
+    pub(crate) fn apply(&mut self, operator: Operator, letter: u8)
         requires operands { ⌜ now self .top + operands operator ≤ 64 ⌝ }
         requires room { ⌜ 0 < now self .top ⌝ }
         requires counted { ⌜ cond (isTemporal operator) 1 0 ≤ now self .number ⌝ }

@@ -7,7 +7,7 @@ use super::Words;
 
 impl Words {
     // No formula yet, and no temporal operator: the last of `temporals` comes first.
-    pub fn none(temporals: usize) -> Words
+    pub(crate) fn none(temporals: usize) -> Words
         requires few { ⌜ temporals ≤ 6 ⌝ }
         ensures held { λ r. ⌜ held r ≡ [] ⌝ }
         ensures top { λ r. ⌜ r .top ≡ 64 ⌝ }
@@ -23,7 +23,7 @@ impl Words {
     }
 
     // The truth of the first formula.
-    pub fn truth(&self) -> u64
+    pub(crate) fn truth(&self) -> u64
         requires some { ⌜ now self .top < 64 ⌝ }
         ensures { λ r. ⌜ r ≡ getD (held (now (self .entry))) 0 0 ⌝ }
     {
@@ -31,7 +31,7 @@ impl Words {
     }
 
     // The bits of the earlier forecast.
-    pub fn earlier(&self) -> [u64; 6]
+    pub(crate) fn earlier(&self) -> [u64; 6]
         ensures { λ r. ⌜ r ≡ now (self .entry) .earlier ⌝ }
     {
         self.earlier
