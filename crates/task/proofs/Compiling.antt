@@ -145,7 +145,10 @@ whole-answer f n letters xs a q₀ i q r few whole start at all known below r-is
     subst Q (ap (λ ys. Some (acceptsByNumber f n ys)) whole ∙ sym is)
       (subst P (sym whole) (each, refl, accepts-by-number f n few (a ∷ xs) each))
 
--- a letter that is too large among them
+-- a letter that is too large, the first or a later one
+pub first-not-below : (n : ℕ) (letters xs : List ℕ) (a : ℕ) → letters ≡ a ∷ xs → n ≤ a → LettersBelow n letters → ⊥
+first-not-below n letters xs a whole large below = let each : LettersBelow n (a ∷ xs) = subst (LettersBelow n) whole below in omega (arith, each .0)
+
 pub not-below : (n : ℕ) (letters xs : List ℕ) (a i : ℕ) → letters ≡ a ∷ xs → i < length xs → n ≤ getD xs i 0 → LettersBelow n letters → ⊥
 not-below n letters xs a i whole h large below =
     let each : LettersBelow n (a ∷ xs) = subst (LettersBelow n) whole below in

@@ -1,5 +1,5 @@
 ghost use mathlib.Core.Path.{_≡_};
-ghost use Prim.Native.Nat.{ℕ, _^_, _<_, _≤_};
+ghost use Prim.Native.Nat.{_<_, _≤_};
 ghost use lib.ListN.{length};
 ghost use Rattle.std.specs.Options.{Cases as BySome};
 ghost use Rattle.std.specs.Orderings.{Decides};
@@ -7,9 +7,8 @@ ghost use Rattle.std.specs.Results.{Cases};
 ghost use Rattle.std.specs.declared.option.Option.the-variants.{Some, None};
 ghost use Rattle.ltlf.specs.Grammar.{Writes};
 ghost use Rattle.ltlf.specs.Ltlf.{Ltlf, Satisfies};
-ghost use Rattle.ltlf.specs.Numbering.{states as statesOver, acceptsByNumber};
-ghost use Rattle.ltlf.specs.Prefix.{meaning};
-ghost use Rattle.ltlf.specs.Theorems.{LettersBelow, Lists-states};
+ghost use Rattle.ltlf.specs.Numbering.{acceptsByNumber};
+ghost use Rattle.ltlf.specs.Theorems.{LettersBelow, Accepts-satisfying, Accepts-by-number, Numbers-states, Reads-grammar};
 ghost use Rattle.task.specs.Compiled.{operatorsOf, taskFormula, marksOf, lettersOf, statesOf, firstState, nextState, acceptsState, forecastsOf};
 ghost use Rattle.task.specs.Faults.{taskFault};
 use super::Task;
@@ -28,8 +27,7 @@ impl Task {
         ensures grammar { λ r. ⌜ Cases r
             (λ t. Writes (now (operators .entry)) (taskFormula t))
             (λ e. e ≡ Fault.NotAFormula → (f : Ltlf) → Writes (now (operators .entry)) f → ⊥) ⌝ }
-        ensures numbering { λ _. ⌜ Lists-states (meaning (now (operators .entry))) (2 ^ marks)
-            (statesOver (meaning (now (operators .entry))) (2 ^ marks)) ⌝ }
+        ensures theorems { λ _. ⌜ Reads-grammar ⌝ ∗ ⌜ Numbers-states ⌝ }
     {
         let formula = Formula::check(marks, operators)?;
         let Some(tables) = Tables::build(&formula.letters(), formula.letter_count()) else {
@@ -110,7 +108,8 @@ impl Task {
 
     // Whether the letters satisfy the formula; none where one of them is no letter.
     pub fn satisfied_by(&self, letters: &[u8]) -> Option<bool>
-        ensures { λ r. ⌜ BySome r
+        ensures theorems { λ _. ⌜ Accepts-satisfying ⌝ ∗ ⌜ Accepts-by-number ⌝ }
+        ensures answer { λ r. ⌜ BySome r
             (LettersBelow (lettersOf (now (self .entry))) (now (letters .entry)) → ⊥)
             (λ b. LettersBelow (lettersOf (now (self .entry))) (now (letters .entry))
                 × (b ≡ acceptsByNumber (taskFormula (now (self .entry))) (lettersOf (now (self .entry))) (now (letters .entry)))

@@ -9,6 +9,7 @@ use Rattle.ltlf.specs.Grammar.{Writes}
 use Rattle.ltlf.specs.Numbering.{states}
 use Rattle.ltlf.specs.Prefix.{meaning}
 use Rattle.ltlf.proofs.Numbers.{numbers-states}
+use Rattle.ltlf.proofs.Reading.{reads-grammar}
 use Rattle.task.specs.Tables.{Tabulates}
 use Rattle.task.specs.Written.{formulaOf}
 use Rattle.task.proofs.Compiling.{many-states, few-states, no-formula, checked-writes, at-letters, same-states, listed-few}
@@ -22,7 +23,7 @@ returns-in-Break-formula c =
     rw (e .1, e .2) (record {
       answer = c .in-Break-formula .ensures tt _;
       grammar = no-formula p os (c .in-Break-formula .field-0 .0) (c .in-Break-formula .ensures tt);
-      numbering = numbers-states (meaning os) (2 ^ p) })
+      theorems = (reads-grammar, numbers-states) })
 
 pub returns-in-rest : need.returns-in-rest
 returns-in-rest c =
@@ -34,7 +35,7 @@ returns-in-rest c =
     record {
       answer = many-states p os (ok .0) (omega (arith, many, ap length (same-states f p os (ok .1) (ok .2))));
       grammar = λ e. let z : _≡_ {A = ℕ} 0 1 = cc in let none : ⊥ = omega arith in absurd none;
-      numbering = numbers-states (meaning os) (2 ^ p) }
+      theorems = (reads-grammar, numbers-states) }
 
 pub ghost-result : need.ghost-result
 ghost-result c =
@@ -55,4 +56,4 @@ returns c =
     record {
       answer = (few-states p os (ok .0) (listed-few (t .numbered) (states (meaning os) (2 ^ p)) (right .lists ∙ same-states f p os (ok .1) (ok .2))), ok .1, ok .2);
       grammar = subst W (ok .1) (checked-writes f);
-      numbering = numbers-states (meaning os) (2 ^ p) }
+      theorems = (reads-grammar, numbers-states) }
