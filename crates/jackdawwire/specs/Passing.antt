@@ -23,4 +23,4 @@ abbrev pub Passed : Task → Option ℕ → ℕ → Option Visit → Type 0
 Passed t before s None = stateAfter t before (letterAt s) ≡ None
 Passed t before s (Some v) =
     (v .station ≡ s) × (v .letter ≡ letterAt s) × (Some (v .state) ≡ stateAfter t before (letterAt s))
-      × (Some (v .fulfilled) ≡ acceptsState (taskFormula t) (lettersOf t) (v .state))
+    × (Some (v .fulfilled) ≡ acceptsState (taskFormula t) (lettersOf t) (v .state))

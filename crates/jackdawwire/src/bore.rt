@@ -38,5 +38,10 @@ pub fn pass(task: &Task, before: Option<u8>, station: u8) -> Option<Visit>
         None => task.first(letter)?,
     };
     let fulfilled = task.accepts(state)?;
-    Some(Visit { station, letter, state, fulfilled })
+    Some(Visit {
+        station,
+        letter,
+        state,
+        fulfilled,
+    })
 }

@@ -2,8 +2,8 @@
 mod bore;
 mod visit;
 
-use bore::TASK;
 use bore::STATIONS;
+use bore::TASK;
 use bore::letter_of;
 use bore::pass;
 use std::io;

@@ -26,7 +26,7 @@ module _ (f : Ltlf) (n : ℕ) (few : length (states f n) ≤ 64) where
   next-known q a h l =
       let r = numbers-states f n .reached q h in
       known (step f (getD (states f n) q 0) a)
-        (reached-step f n (getD (states f n) q 0) a (record { start = r .0; more = r .1; start-below = r .2; more-below = r .3; is = r .4 }) l)
+      (reached-step f n (getD (states f n) q 0) a (record { start = r .0; more = r .1; start-below = r .2; more-below = r .3; is = r .4 }) l)
 
   -- the state at the number of a state that is reached
   state-at : (s : ℕ) → Reached f n s → getD (states f n) (place s (states f n)) 0 ≡ s
@@ -34,12 +34,12 @@ module _ (f : Ltlf) (n : ℕ) (few : length (states f n) ≤ 64) where
 
   -- the state at the number after more letters
   state-after : (q s : ℕ) (xs : List ℕ) → getD (states f n) q 0 ≡ s → Reached f n s → LettersBelow n xs
-    → getD (states f n) (numberAfter f n q xs) 0 ≡ steps f s xs
+      → getD (states f n) (numberAfter f n q xs) 0 ≡ steps f s xs
   state-after q s [] e r below = e
   state-after q s (a ∷ xs) e r below =
       let after : Reached f n (step f s a) = reached-step f n s a r (below .0) in
       state-after (nextNumber f n q a) (step f s a) xs
-        (ap (λ x. getD (states f n) (place (step f x a) (states f n)) 0) e ∙ state-at (step f s a) after) after (below .1)
+      (ap (λ x. getD (states f n) (place (step f x a) (states f n)) 0) e ∙ state-at (step f s a) after) after (below .1)
 
   same-answer : (xs : List ℕ) → LettersBelow n xs → acceptsByNumber f n xs ≡ accepts f xs
   same-answer [] below = refl

@@ -17,8 +17,9 @@ use Rattle.ltlf.proofs.Places.{Begins, begins-same, begins-then, begins-length
 pub meets-begins : (g : ℕ → ℕ) (m n : ℕ) (ss : List ℕ) → m ≤ n → Begins (meets g m ss) (meets g n ss)
 meets-begins g m zero ss h = let e : m ≡ 0 = omega arith in rw e (begins-same ss)
 meets-begins g m (suc n) ss h = elim (cases-lt n m) [
-    inl l ↦ (let e : m ≡ suc n = omega arith in rw e (begins-same (meets g (suc n) ss)))
-  | inr l ↦ begins-then (meets g m ss) (meets g n ss) (meets g (suc n) ss) (meets-begins g m n ss l) (meet-begins (meets g n ss) (g n)) ]
+  | inl l ↦ (let e : m ≡ suc n = omega arith in rw e (begins-same (meets g (suc n) ss)))
+  | inr l ↦ begins-then (meets g m ss) (meets g n ss) (meets g (suc n) ss) (meets-begins g m n ss l) (meet-begins (meets g n ss) (g n))
+]
 
 pub meets-mono : (g : ℕ → ℕ) (m n : ℕ) (ss : List ℕ) → m ≤ n → length (meets g m ss) ≤ length (meets g n ss)
 meets-mono g m n ss h = begins-length (meets g m ss) (meets g n ss) (meets-begins g m n ss h)
@@ -43,13 +44,14 @@ follow-known f n q ss h = sym (cond-true (ltb q (length ss)) (meets (step f (get
 follow-begins : (f : Ltlf) (n q : ℕ) (ss : List ℕ) → Begins ss (follow f n q ss)
 follow-begins f n q ss =
     cond-both (ltb q (length ss)) (meets (step f (getD ss q 0)) n ss) ss (λ x. Begins ss x)
-      (λ e. meets-begins (step f (getD ss q 0)) 0 n ss (omega arith)) (λ e. begins-same ss)
+    (λ e. meets-begins (step f (getD ss q 0)) 0 n ss (omega arith)) (λ e. begins-same ss)
 
 pub met-begins : (f : Ltlf) (n p q : ℕ) → p ≤ q → Begins (met f n p) (met f n q)
 met-begins f n p zero h = let e : p ≡ 0 = omega arith in rw e (begins-same (met f n 0))
 met-begins f n p (suc q) h = elim (cases-lt q p) [
-    inl l ↦ (let e : p ≡ suc q = omega arith in rw e (begins-same (met f n (suc q))))
-  | inr l ↦ begins-then (met f n p) (met f n q) (met f n (suc q)) (met-begins f n p q l) (follow-begins f n q (met f n q)) ]
+  | inl l ↦ (let e : p ≡ suc q = omega arith in rw e (begins-same (met f n (suc q))))
+  | inr l ↦ begins-then (met f n p) (met f n q) (met f n (suc q)) (met-begins f n p q l) (follow-begins f n q (met f n q))
+]
 
 met-mono : (f : Ltlf) (n p q : ℕ) → p ≤ q → length (met f n p) ≤ length (met f n q)
 met-mono f n p q h = begins-length (met f n p) (met f n q) (met-begins f n p q h)
@@ -60,7 +62,7 @@ met-closed f n q (suc d) h =
     let e : suc d + q ≡ suc (d + q) = omega arith in
     let ih : met f n (d + q) ≡ met f n q = met-closed f n q d h in
     ap (met f n) e ∙ (ap (follow f n (d + q)) ih
-      ∙ cond-false (ltb (d + q) (length (met f n q))) (meets (step f (getD (met f n q) (d + q) 0)) n (met f n q)) (met f n q) (le-ltb _ _ (omega arith)))
+    ∙ cond-false (ltb (d + q) (length (met f n q))) (meets (step f (getD (met f n q) (d + q) 0)) n (met f n q)) (met f n q) (le-ltb _ _ (omega arith)))
 
 pub met-whole : (f : Ltlf) (n p q : ℕ) → length (met f n p) ≤ p → p ≤ q → met f n q ≡ met f n p
 met-whole f n p q h l =

@@ -41,16 +41,17 @@ bit-low c n r k h =
     let e : n ≡ d + (1 + k) = omega arith in
     let p : 2 ^ n ≡ 2 ^ d * 2 ^ (1 + k) = ap (λ x. 2 ^ x) e ∙ pow-add 2 d (1 + k) in
     let q : (c * 2 ^ n + r) % 2 ^ (1 + k) ≡ r % 2 ^ (1 + k)
-          = ap (λ x. (c * x + r) % 2 ^ (1 + k)) p ∙ low-mod c (2 ^ d) (2 ^ (1 + k)) r in
+    = ap (λ x. (c * x + r) % 2 ^ (1 + k)) p ∙ low-mod c (2 ^ d) (2 ^ (1 + k)) r in
     bit-mod (c * 2 ^ n + r) k ∙ (ap (λ x. eqb (x / 2 ^ k) 1) q ∙ sym (bit-mod r k))
 
 pub bit-pack : (n : ℕ) (p : ℕ → Bool) (k : ℕ) → k < n → bit k (pack n p) ≡ p k
 bit-pack zero p k h = let z : ⊥ = omega arith in elim z [ ]
 bit-pack (suc n) p k h = elim (cases-lt k n) [
-    inl l ↦ bit-low (cond (p n) 1 0) n (pack n p) k l ∙ bit-pack n p k l
+  | inl l ↦ bit-low (cond (p n) 1 0) n (pack n p) k l ∙ bit-pack n p k l
   | inr g ↦
       let e : k ≡ n = omega arith in
-      rw e (bit-top (p n) n (pack n p) (pack-lt n p)) ]
+      rw e (bit-top (p n) n (pack n p) (pack-lt n p))
+]
 
 -- bit k of a number, from the lowest bit up
 low-digit : (b : Bool) (x : ℕ) → eqb ((cond b 1 0 + 2 * x) % 2) 1 ≡ b
@@ -100,4 +101,4 @@ number-append [] cs m e = rw (← e) (omega arith)
 number-append (b ∷ bs) cs m e =
     let q : 2 ^ m ≡ 2 ^ length bs * 2 = ap (λ x. 2 ^ x) (sym e) ∙ pow-suc 2 (length bs) in
     ap (λ x. cond b 1 0 + 2 * x) (number-append bs cs (length bs) refl)
-      ∙ join-step (cond b 1 0) (number bs) (number cs) (2 ^ length bs) (2 ^ m) q
+    ∙ join-step (cond b 1 0) (number bs) (number cs) (2 ^ length bs) (2 ^ m) q

@@ -18,13 +18,13 @@ place-found s [] i h no-earlier here = let z : ⊥ = omega arith in elim z [ ]
 place-found s (x ∷ xs) zero h no-earlier here = sym (cond-true (eqb x s) 0 (suc (place s xs)) (eq-eqb x s here))
 place-found s (x ∷ xs) (suc i) h no-earlier here =
     ap suc (place-found s xs i (omega arith) (λ k l. no-earlier (suc k) (omega arith)) here)
-      ∙ sym (cond-false (eqb x s) 0 (suc (place s xs)) (ne-eqb x s (no-earlier 0 (omega arith))))
+    ∙ sym (cond-false (eqb x s) 0 (suc (place s xs)) (ne-eqb x s (no-earlier 0 (omega arith))))
 
 pub place-none : (s : ℕ) (xs : List ℕ) → ((k : ℕ) → k < length xs → getD xs k 0 ≡ s → ⊥) → length xs ≡ place s xs
 place-none s [] nowhere = refl
 place-none s (x ∷ xs) nowhere =
     ap suc (place-none s xs (λ k l. nowhere (suc k) (omega arith)))
-      ∙ sym (cond-false (eqb x s) 0 (suc (place s xs)) (ne-eqb x s (nowhere 0 (omega arith))))
+    ∙ sym (cond-false (eqb x s) 0 (suc (place s xs)) (ne-eqb x s (nowhere 0 (omega arith))))
 
 cond-le : (b : Bool) (m n : ℕ) → m ≤ n → cond b 0 (suc m) ≤ suc n
 cond-le true m n h = omega arith
@@ -36,7 +36,7 @@ place-le s (x ∷ xs) = cond-le (eqb x s) (place s xs) (length xs) (place-le s x
 
 -- the list holds the state at its place, if it has one
 getD-cond : (b : Bool) (x s m : ℕ) (ss : List ℕ) → (b ≡ true → x ≡ s) → (m < length ss → getD ss m 0 ≡ s)
-  → cond b 0 (suc m) < suc (length ss) → getD (x ∷ ss) (cond b 0 (suc m)) 0 ≡ s
+    → cond b 0 (suc m) < suc (length ss) → getD (x ∷ ss) (cond b 0 (suc m)) 0 ≡ s
 getD-cond true x s m ss here later h = here refl
 getD-cond false x s m ss here later h = later (omega arith)
 
@@ -46,10 +46,10 @@ place-getD s (x ∷ ss) h = getD-cond (eqb x s) x s (place s ss) ss (eqb-true x 
 
 -- where no state stands twice, each one's place is its index
 pub place-at : (ss : List ℕ) → ((p q : ℕ) → p < length ss → q < length ss → getD ss p 0 ≡ getD ss q 0 → p ≡ q)
-  → (q : ℕ) → q < length ss → place (getD ss q 0) ss ≡ q
+    → (q : ℕ) → q < length ss → place (getD ss q 0) ss ≡ q
 place-at ss apart q h =
     sym (place-found (getD ss q 0) ss q h
-      (λ k l e. let same : k ≡ q = apart k q (omega arith) h e in omega arith) refl)
+    (λ k l e. let same : k ≡ q = apart k q (omega arith) h e in omega arith) refl)
 
 -- places in the first n of an array
 module _ (s n : ℕ) (xs : List ℕ) (fits : n ≤ length xs) where
@@ -59,8 +59,8 @@ module _ (s n : ℕ) (xs : List ℕ) (fits : n ≤ length xs) where
   pub front-found : (i : ℕ) → i < n → ((k : ℕ) → k < i → getD xs k 0 ≡ s → ⊥) → getD xs i 0 ≡ s → i ≡ place s (take n xs)
   front-found i h no-earlier here =
       place-found s (take n xs) i (omega (arith, front-length))
-        (λ k l e. no-earlier k l (sym (getD-take n xs k 0 (omega arith)) ∙ e))
-        (getD-take n xs i 0 h ∙ here)
+      (λ k l e. no-earlier k l (sym (getD-take n xs k 0 (omega arith)) ∙ e))
+      (getD-take n xs i 0 h ∙ here)
 
   pub front-none : ((k : ℕ) → k < n → getD xs k 0 ≡ s → ⊥) → n ≡ place s (take n xs)
   front-none nowhere =
@@ -89,8 +89,9 @@ begins-same ss = record { rest = []; is = sym (append-nil ss) }
 
 pub begins-then : (ss ts us : List ℕ) → Begins ss ts → Begins ts us → Begins ss us
 begins-then ss ts us b c = record {
-    rest = b .rest ++ c .rest;
-    is = c .is ∙ (ap (λ x. x ++ c .rest) (b .is) ∙ append-assoc ss (b .rest) (c .rest)) }
+  rest = b .rest ++ c .rest;
+  is = c .is ∙ (ap (λ x. x ++ c .rest) (b .is) ∙ append-assoc ss (b .rest) (c .rest));
+}
 
 pub begins-length : (ss ts : List ℕ) → Begins ss ts → length ss ≤ length ts
 begins-length ss ts b = omega (arith, ap length (b .is), length-append ss (b .rest))
@@ -116,7 +117,7 @@ begins-has ss ts b s h = omega (arith, begins-place ss ts b s h, begins-length s
 pub meet-begins : (ss : List ℕ) (t : ℕ) → Begins ss (meet ss t)
 meet-begins ss t =
     cond-both (ltb (place t ss) (length ss)) ss (ss ++ t ∷ []) (λ x. Begins ss x)
-      (λ e. begins-same ss) (λ e. record { rest = t ∷ []; is = refl })
+    (λ e. begins-same ss) (λ e. record { rest = t ∷ []; is = refl })
 
 pub meet-grows : (ss : List ℕ) (s : ℕ) → length ss ≤ length (meet ss s)
 meet-grows ss s = begins-length ss (meet ss s) (meet-begins ss s)
@@ -138,23 +139,24 @@ place-new t (x ∷ ss) h = cond-new (eqb x t) (place t ss) (place t (ss ++ t ∷
 pub meet-has : (ss : List ℕ) (t : ℕ) → place t (meet ss t) < length (meet ss t)
 meet-has ss t =
     cond-both (ltb (place t ss) (length ss)) ss (ss ++ t ∷ []) (λ x. place t x < length x)
-      (λ e. ltb-true (place t ss) (length ss) e)
-      (λ e. omega (arith, place-new t ss (ltb-false _ _ e), length-append ss (t ∷ [])))
+    (λ e. ltb-true (place t ss) (length ss) e)
+    (λ e. omega (arith, place-new t ss (ltb-false _ _ e), length-append ss (t ∷ [])))
 
 -- what holds of each state and of a new one holds of each once the new one is met
 each-push : (P : ℕ → Type 0) (ss : List ℕ) (t : ℕ) → ((q : ℕ) → q < length ss → P (getD ss q 0)) → P t
-  → (q : ℕ) → q < length (ss ++ t ∷ []) → P (getD (ss ++ t ∷ []) q 0)
+    → (q : ℕ) → q < length (ss ++ t ∷ []) → P (getD (ss ++ t ∷ []) q 0)
 each-push P ss t each new q h = elim (cases-lt q (length ss)) [
-    inl l ↦ rw (getD-append-left ss (t ∷ []) 0 q l) (each q l)
+  | inl l ↦ rw (getD-append-left ss (t ∷ []) 0 q l) (each q l)
   | inr g ↦
       let e : length ss ≡ q = omega (arith, length-append ss (t ∷ [])) in
-      rw (getD-push ss t 0 q e) new ]
+      rw (getD-push ss t 0 q e) new
+]
 
 pub meet-each : (P : ℕ → Type 0) (ss : List ℕ) (t : ℕ) → ((q : ℕ) → q < length ss → P (getD ss q 0)) → P t
-  → (q : ℕ) → q < length (meet ss t) → P (getD (meet ss t) q 0)
+    → (q : ℕ) → q < length (meet ss t) → P (getD (meet ss t) q 0)
 meet-each P ss t each new =
     cond-both (ltb (place t ss) (length ss)) ss (ss ++ t ∷ []) (λ x. (q : ℕ) → q < length x → P (getD x q 0))
-      (λ e. each) (λ e. each-push P ss t each new)
+    (λ e. each) (λ e. each-push P ss t each new)
 
 -- each state's place is its index
 abbrev pub Own-places : List ℕ → Type 0
@@ -162,13 +164,14 @@ Own-places ss = (q : ℕ) → q < length ss → place (getD ss q 0) ss ≡ q
 
 own-push : (ss : List ℕ) (t : ℕ) → length ss ≤ place t ss → Own-places ss → Own-places (ss ++ t ∷ [])
 own-push ss t new own q h = elim (cases-lt q (length ss)) [
-    inl l ↦ rw (getD-append-left ss (t ∷ []) 0 q l)
+  | inl l ↦ rw (getD-append-left ss (t ∷ []) 0 q l)
       (place-append (getD ss q 0) ss (t ∷ []) (omega (arith, own q l)) ∙ own q l)
   | inr g ↦
       let e : length ss ≡ q = omega (arith, length-append ss (t ∷ [])) in
-      rw (getD-push ss t 0 q e) (place-new t ss new ∙ e) ]
+      rw (getD-push ss t 0 q e) (place-new t ss new ∙ e)
+]
 
 pub meet-own : (ss : List ℕ) (t : ℕ) → Own-places ss → Own-places (meet ss t)
 meet-own ss t own =
     cond-both (ltb (place t ss) (length ss)) ss (ss ++ t ∷ []) Own-places
-      (λ e. own) (λ e. own-push ss t (ltb-false _ _ e) own)
+    (λ e. own) (λ e. own-push ss t (ltb-false _ _ e) own)

@@ -15,11 +15,11 @@ use Rattle.ltlf.specs.Theorems.{Reads-grammar}
 
 -- what is written is read, with other operators after it
 two-read : (o : Operator) (os ps rest : List Operator) (fs : List Ltlf)
-  → formulas (os ++ (ps ++ rest)) ≡ Some fs → formulas (o ∷ ((os ++ ps) ++ rest)) ≡ made o fs
+    → formulas (os ++ (ps ++ rest)) ≡ Some fs → formulas (o ∷ ((os ++ ps) ++ rest)) ≡ made o fs
 two-read o os ps rest fs e = ap (λ x. madeOf o (formulas x)) (append-assoc os ps rest) ∙ ap (madeOf o) e
 
 written-read : {os : List Operator} {f : Ltlf} → Writes os f → (rest : List Operator) (fs : List Ltlf)
-  → formulas rest ≡ Some fs → formulas (os ++ rest) ≡ Some (f ∷ fs)
+    → formulas rest ≡ Some fs → formulas (os ++ rest) ≡ Some (f ∷ fs)
 written-read is-true rest fs e = ap (madeOf True) e
 written-read (is-mark m) rest fs e = ap (madeOf (Mark m)) e
 written-read (is-not w) rest fs e = ap (madeOf Not) (written-read w rest fs e)
@@ -46,19 +46,19 @@ parts-same : (os : List Operator) (gs fs : List Ltlf) → Parts os gs → Some g
 parts-same os gs fs ps e = let same : gs ≡ fs = cc in rw (sym same) ps
 
 part-one : (o : Operator) (k : Ltlf → Ltlf) → ((ps : List Operator) (f : Ltlf) → Writes ps f → Writes (o ∷ ps) (k f))
-  → {os : List Operator} {gs : List Ltlf} (fs : List Ltlf) → Parts os gs → over k gs ≡ Some fs → Parts (o ∷ os) fs
+    → {os : List Operator} {gs : List Ltlf} (fs : List Ltlf) → Parts os gs → over k gs ≡ Some fs → Parts (o ∷ os) fs
 part-one o k writes fs none e = elim (not-none fs e) [ ]
 part-one o k writes fs (more {ps} {os} {f} {fs = gs} w rest) e = parts-same (o ∷ (ps ++ os)) (k f ∷ gs) fs (more (writes ps f w) rest) e
 
 part-two : (o : Operator) (k : Ltlf → Ltlf → Ltlf)
-  → ((ps qs : List Operator) (f g : Ltlf) → Writes ps f → Writes qs g → Writes (o ∷ (ps ++ qs)) (k f g))
-  → {os : List Operator} {gs : List Ltlf} (fs : List Ltlf) → Parts os gs → overTwo k gs ≡ Some fs → Parts (o ∷ os) fs
+    → ((ps qs : List Operator) (f g : Ltlf) → Writes ps f → Writes qs g → Writes (o ∷ (ps ++ qs)) (k f g))
+    → {os : List Operator} {gs : List Ltlf} (fs : List Ltlf) → Parts os gs → overTwo k gs ≡ Some fs → Parts (o ∷ os) fs
 part-two o k writes fs none e = elim (not-none fs e) [ ]
 part-two o k writes fs (more w none) e = elim (not-none fs e) [ ]
 part-two o k writes fs (more {ps} {f} w (more {ps = qs} {os} {f = g} {fs = gs} v rest)) e =
     let P : List Operator → Type 0 = λ x. Parts (o ∷ x) fs in
     subst P (append-assoc ps qs os)
-      (parts-same (o ∷ ((ps ++ qs) ++ os)) (k f g ∷ gs) fs (more (writes ps qs f g w v) rest) e)
+    (parts-same (o ∷ ((ps ++ qs) ++ os)) (k f g ∷ gs) fs (more (writes ps qs f g w v) rest) e)
 
 part-made : (o : Operator) (os : List Operator) (gs fs : List Ltlf) → Parts os gs → made o gs ≡ Some fs → Parts (o ∷ os) fs
 part-made True os gs fs ps e = parts-same (True ∷ os) (top ∷ gs) fs (more is-true ps) e
@@ -73,7 +73,7 @@ part-made Eventually os gs fs ps e = part-one Eventually eventually (λ qs f w. 
 part-made Always os gs fs ps e = part-one Always always (λ qs f w. is-always w) fs ps e
 
 parts-more : (o : Operator) (os : List Operator) (r : Option (List Ltlf)) → ((gs : List Ltlf) → r ≡ Some gs → Parts os gs)
-  → (fs : List Ltlf) → madeOf o r ≡ Some fs → Parts (o ∷ os) fs
+    → (fs : List Ltlf) → madeOf o r ≡ Some fs → Parts (o ∷ os) fs
 parts-more o os None parts fs e = elim (not-none fs e) [ ]
 parts-more o os (Some gs) parts fs e = part-made o os gs fs (parts gs refl) e
 
@@ -92,6 +92,7 @@ part-only : {os : List Operator} {f : Ltlf} → Parts os (f ∷ []) → Writes o
 part-only (more {ps} w none) = rw append-nil w
 
 pub reads-grammar : Reads-grammar
-reads-grammar os f =
-    (λ e. part-only (parts-read os (f ∷ []) (only-one (formulas os) f e)),
-     λ w. ap only (ap formulas (sym (append-nil os)) ∙ written-read w [] [] refl))
+reads-grammar os f = (
+  λ e. part-only (parts-read os (f ∷ []) (only-one (formulas os) f e)),
+  λ w. ap only (ap formulas (sym (append-nil os)) ∙ written-read w [] [] refl),
+)

@@ -78,8 +78,9 @@ record Within (whole f : Ltlf) (n : ℕ) : Type 0 where
 
 within-whole : (f : Ltlf) → Within f f 0
 within-whole f = record {
-    before = λ a w. part-whole (earlierBits f 0 a w);
-    at-end = part-whole (endBits f) }
+  before = λ a w. part-whole (earlierBits f 0 a w);
+  at-end = part-whole (endBits f);
+}
 
 -- a run of the automaton, read backwards: the forecast before the letters, from the one after them
 back : Ltlf → List ℕ → ℕ → ℕ
@@ -104,18 +105,25 @@ Unrolled f g xs i = Holds g xs i ⊎ (Holds f xs i × ((suc i < length xs) × Ho
 unroll : (f g : Ltlf) (xs : List ℕ) (i : ℕ) → Holds (until f g) xs i → Unrolled f g xs i
 unfolding Unrolled
 unroll f g xs i (k, low, high, there, before) = elim (cases-eq i k) [
-    inl e ↦ inl (rw e there)
+  | inl e ↦ inl (rw e there)
   | inr ne ↦
       let more : i < k = omega arith in
-      inr (before i (omega arith) more, (omega arith, (k, more, high, there, λ j l h. before j (omega arith) h))) ]
+      inr (before i (omega arith) more, (omega arith, (k, more, high, there, λ j l h. before j (omega arith) h)))
+]
 
 roll : (f g : Ltlf) (xs : List ℕ) (i : ℕ) → i < length xs → Unrolled f g xs i → Holds (until f g) xs i
 unfolding Unrolled
 roll f g xs i within (inl here) = (i, omega arith, within, here, λ j l h. let z : ⊥ = omega arith in elim z [ ])
-roll f g xs i within (inr (now, (more, (k, low, high, there, before)))) =
-    (k, omega arith, high, there, λ j l h. elim (cases-eq j i) [
-        inl e ↦ rw e now
-      | inr ne ↦ before j (omega arith) h ])
+roll f g xs i within (inr (now, (more, (k, low, high, there, before)))) = (
+  k,
+  omega arith,
+  high,
+  there,
+  λ j l h. elim (cases-eq j i) [
+    | inl e ↦ rw e now
+    | inr ne ↦ before j (omega arith) h
+  ],
+)
 
 module _ (whole : Ltlf) (xs : List ℕ) where
   -- the forecast that comes true at position i
@@ -141,28 +149,29 @@ module _ (whole : Ltlf) (xs : List ℕ) where
   next-right : (f : Ltlf) (n : ℕ) → Within whole (next f) n → Right-throughout f (suc n) → Right-throughout (next f) n
   unfolding Right-throughout Right-at
   next-right f n win right i h = elim (cases-lt (suc i) (length xs)) [
-      inl more ↦
+    | inl more ↦
         let is : bit n (forecast i) ≡ truth f (suc n) (getD xs (suc i) 0) (forecast (suc i))
-               = ap (bit n) (forecast-step i more) ∙ part-head _ n _ _ (win .before (getD xs (suc i) 0) (forecast (suc i))) in
+        = ap (bit n) (forecast-step i more) ∙ part-head _ n _ _ (win .before (getD xs (suc i) 0) (forecast (suc i))) in
         decides-at _ _ is (decides-like _ (λ p. (more, p)) (λ q. q .1) (right (suc i) more))
     | inr done ↦
         let is : bit n (forecast i) ≡ false = ap (bit n) (forecast-end i done) ∙ part-head _ n _ _ (win .at-end) in
-        decides-at _ _ is (λ e. elim (both-ways _ refl e) [ ], λ q. let z : ⊥ = omega (arith, q .0) in elim z [ ]) ]
+        decides-at _ _ is (λ e. elim (both-ways _ refl e) [ ], λ q. let z : ⊥ = omega (arith, q .0) in elim z [ ])
+  ]
 
   weak-right : (f : Ltlf) (n : ℕ) → Within whole (weak f) n → Right-throughout f (suc n) → Right-throughout (weak f) n
   unfolding Right-throughout Right-at
   weak-right f n win right i h = elim (cases-lt (suc i) (length xs)) [
-      inl more ↦
+    | inl more ↦
         let is : bit n (forecast i) ≡ truth f (suc n) (getD xs (suc i) 0) (forecast (suc i))
-               = ap (bit n) (forecast-step i more) ∙ part-head _ n _ _ (win .before (getD xs (suc i) 0) (forecast (suc i))) in
+        = ap (bit n) (forecast-step i more) ∙ part-head _ n _ _ (win .before (getD xs (suc i) 0) (forecast (suc i))) in
         decides-at _ _ is (decides-like _ (λ p q. p) (λ p. p more) (right (suc i) more))
     | inr done ↦
         let is : bit n (forecast i) ≡ true = ap (bit n) (forecast-end i done) ∙ part-head _ n _ _ (win .at-end) in
-        decides-at _ _ is (λ e q. let z : ⊥ = omega arith in elim z [ ], λ q. refl) ]
+        decides-at _ _ is (λ e q. let z : ⊥ = omega arith in elim z [ ], λ q. refl)
+  ]
 
   module _ (f g : Ltlf) (n : ℕ) (win : Within whole (until f g) n)
-    (left : Right-throughout f (suc n)) (right : Right-throughout g (suc n + temporal f)) where
-
+      (left : Right-throughout f (suc n)) (right : Right-throughout g (suc n + temporal f)) where
     -- the bit of an until says that a next position exists and the until holds there
     Ahead : ℕ → Type 0
     Ahead i = Decides (bit n (forecast i)) ((suc i < length xs) × Holds (until f g) xs (suc i))
@@ -171,18 +180,19 @@ module _ (whole : Ltlf) (xs : List ℕ) where
     unfolding Right-throughout Right-at Ahead Unrolled
     until-here i h ahead =
         decides-like _ (roll f g xs i h) (unroll f g xs i)
-          (decides-or _ _ (right i h) (decides-and _ _ (left i h) ahead))
+        (decides-or _ _ (right i h) (decides-and _ _ (left i h) ahead))
 
     ahead-from : (i : ℕ) → (suc i < length xs → Right-at (until f g) n (suc i)) → Ahead i
     unfolding Right-at Ahead
     ahead-from i after = elim (cases-lt (suc i) (length xs)) [
-        inl more ↦
+      | inl more ↦
           let is : bit n (forecast i) ≡ truth (until f g) n (getD xs (suc i) 0) (forecast (suc i))
-                 = ap (bit n) (forecast-step i more) ∙ part-head _ n _ _ (win .before (getD xs (suc i) 0) (forecast (suc i))) in
+          = ap (bit n) (forecast-step i more) ∙ part-head _ n _ _ (win .before (getD xs (suc i) 0) (forecast (suc i))) in
           decides-at _ _ is (decides-like _ (λ p. (more, p)) (λ q. q .1) (after more))
       | inr done ↦
           let is : bit n (forecast i) ≡ false = ap (bit n) (forecast-end i done) ∙ part-head _ n _ _ (win .at-end) in
-          decides-at _ _ is (λ e. elim (both-ways _ refl e) [ ], λ q. let z : ⊥ = omega (arith, q .0) in elim z [ ]) ]
+          decides-at _ _ is (λ e. elim (both-ways _ refl e) [ ], λ q. let z : ⊥ = omega (arith, q .0) in elim z [ ])
+    ]
 
     until-within : (d i : ℕ) → length xs ≤ i + d → i < length xs → Right-at (until f g) n i
     until-within zero i far h = let z : ⊥ = omega arith in elim z [ ]
@@ -195,32 +205,39 @@ module _ (whole : Ltlf) (xs : List ℕ) where
   -- the operands of a part are parts
   inner-next : (f : Ltlf) (n : ℕ) → Within whole (next f) n → Within whole f (suc n)
   inner-next f n win = record {
-      before = λ a w. part-tail _ n _ _ (win .before a w);
-      at-end = part-tail _ n _ _ (win .at-end) }
+    before = λ a w. part-tail _ n _ _ (win .before a w);
+    at-end = part-tail _ n _ _ (win .at-end);
+  }
 
   inner-weak : (f : Ltlf) (n : ℕ) → Within whole (weak f) n → Within whole f (suc n)
   inner-weak f n win = record {
-      before = λ a w. part-tail _ n _ _ (win .before a w);
-      at-end = part-tail _ n _ _ (win .at-end) }
+    before = λ a w. part-tail _ n _ _ (win .before a w);
+    at-end = part-tail _ n _ _ (win .at-end);
+  }
 
   inner-left : (f g : Ltlf) (n : ℕ) → Within whole (conj f g) n → Within whole f n
   inner-left f g n win = record {
-      before = λ a w. part-left _ n _ _ (win .before a w);
-      at-end = part-left _ n _ _ (win .at-end) }
+    before = λ a w. part-left _ n _ _ (win .before a w);
+    at-end = part-left _ n _ _ (win .at-end);
+  }
 
   inner-right : (f g : Ltlf) (n : ℕ) → Within whole (conj f g) n → Within whole g (n + temporal f)
   inner-right f g n win = record {
-      before = λ a w. part-right _ n (temporal f) _ _ (earlier-length f n a w) (win .before a w);
-      at-end = part-right _ n (temporal f) _ _ (end-length f) (win .at-end) }
+    before = λ a w. part-right _ n (temporal f) _ _ (earlier-length f n a w) (win .before a w);
+    at-end = part-right _ n (temporal f) _ _ (end-length f) (win .at-end);
+  }
 
   inner-until : (f g : Ltlf) (n : ℕ) → Within whole (until f g) n → Within whole f (suc n) × Within whole g (suc n + temporal f)
-  inner-until f g n win =
-      (record {
-         before = λ a w. part-left _ (suc n) _ _ (part-tail _ n _ _ (win .before a w));
-         at-end = part-left _ (suc n) _ _ (part-tail _ n _ _ (win .at-end)) },
-       record {
-         before = λ a w. part-right _ (suc n) (temporal f) _ _ (earlier-length f (suc n) a w) (part-tail _ n _ _ (win .before a w));
-         at-end = part-right _ (suc n) (temporal f) _ _ (end-length f) (part-tail _ n _ _ (win .at-end)) })
+  inner-until f g n win = (
+    record {
+      before = λ a w. part-left _ (suc n) _ _ (part-tail _ n _ _ (win .before a w));
+      at-end = part-left _ (suc n) _ _ (part-tail _ n _ _ (win .at-end));
+    },
+    record {
+      before = λ a w. part-right _ (suc n) (temporal f) _ _ (earlier-length f (suc n) a w) (part-tail _ n _ _ (win .before a w));
+      at-end = part-right _ (suc n) (temporal f) _ _ (end-length f) (part-tail _ n _ _ (win .at-end));
+    },
+  )
 
   -- so it is for every part of the whole formula
   all-right : (f : Ltlf) (n : ℕ) → Within whole f n → Right-throughout f n

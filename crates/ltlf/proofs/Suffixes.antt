@@ -122,6 +122,7 @@ end-known os fs i e = option-known (formulas (drop i os)) (λ n. let z : _≡_ {
   where
     clash : _≡_ {A = Option (List Ltlf)} None (Some fs) → ⊥
     clash z = let y : _≡_ {A = ℕ} 0 1 = cc in omega arith
+
     option-known : (o : Option (List Ltlf)) → (o ≡ None → ⊥) → (gs : List Ltlf) × (o ≡ Some gs)
     option-known None n = absurd (n refl)
     option-known (Some gs) n = (gs, refl)

@@ -21,20 +21,20 @@ digit x = elim (cases-lt (x % 2) 1) [ inl l ↦ inl (omega arith) | inr l ↦ in
 
 -- an operation that goes digit by digit, by its digit at k
 module _ (op : ℕ → ℕ → ℕ) (on : Bool → Bool → Bool)
-  (shr : (a b k : ℕ) → op a b / 2 ^ k ≡ op (a / 2 ^ k) (b / 2 ^ k))
-  (low : (a b : ℕ) → op a b % 2 ≡ op (a % 2) (b % 2))
-  (t00 : eqb (op 0 0) 1 ≡ on false false) (t01 : eqb (op 0 1) 1 ≡ on false true)
-  (t10 : eqb (op 1 0) 1 ≡ on true false) (t11 : eqb (op 1 1) 1 ≡ on true true) where
-
+    (shr : (a b k : ℕ) → op a b / 2 ^ k ≡ op (a / 2 ^ k) (b / 2 ^ k))
+    (low : (a b : ℕ) → op a b % 2 ≡ op (a % 2) (b % 2))
+    (t00 : eqb (op 0 0) 1 ≡ on false false) (t01 : eqb (op 0 1) 1 ≡ on false true)
+    (t10 : eqb (op 1 0) 1 ≡ on true false) (t11 : eqb (op 1 1) 1 ≡ on true true) where
   digits-op : (x y : ℕ) → eqb (op (x % 2) (y % 2)) 1 ≡ on (eqb (x % 2) 1) (eqb (y % 2) 1)
   digits-op x y = elim (digit x) [
-      inl p ↦ elim (digit y) [ inl q ↦ rw (p, q) t00 | inr q ↦ rw (p, q) t01 ]
-    | inr p ↦ elim (digit y) [ inl q ↦ rw (p, q) t10 | inr q ↦ rw (p, q) t11 ] ]
+    | inl p ↦ elim (digit y) [ inl q ↦ rw (p, q) t00 | inr q ↦ rw (p, q) t01 ]
+    | inr p ↦ elim (digit y) [ inl q ↦ rw (p, q) t10 | inr q ↦ rw (p, q) t11 ]
+  ]
 
   bit-op : (k a b : ℕ) → bit k (op a b) ≡ on (bit k a) (bit k b)
   bit-op k a b =
       ap (λ x. eqb (x % 2) 1) (shr a b k)
-        ∙ (ap (λ x. eqb x 1) (low (a / 2 ^ k) (b / 2 ^ k)) ∙ digits-op (a / 2 ^ k) (b / 2 ^ k))
+      ∙ (ap (λ x. eqb x 1) (low (a / 2 ^ k) (b / 2 ^ k)) ∙ digits-op (a / 2 ^ k) (b / 2 ^ k))
 
 pub bit-and : (k a b : ℕ) → bit k (bitAnd a b) ≡ (bit k a && bit k b)
 bit-and k a b = bit-op bitAnd _&&_ and-shr (λ a b. and-mod a b 1) refl refl refl refl k a b
@@ -79,12 +79,15 @@ bit-past k n x h l =
 -- two words with the same bits are equal
 eqb-digit : (x y : ℕ) → eqb (x % 2) 1 ≡ eqb (y % 2) 1 → x % 2 ≡ y % 2
 eqb-digit x y e = elim (digit x) [
-    inl p ↦ elim (digit y) [
-        inl q ↦ omega arith
-      | inr q ↦ (let z : _≡_ {A = Bool} false true = ap (λ v. eqb v 1) (sym p) ∙ (e ∙ ap (λ v. eqb v 1) q) in cc) ]
+  | inl p ↦ elim (digit y) [
+    | inl q ↦ omega arith
+    | inr q ↦ (let z : _≡_ {A = Bool} false true = ap (λ v. eqb v 1) (sym p) ∙ (e ∙ ap (λ v. eqb v 1) q) in cc)
+  ]
   | inr p ↦ elim (digit y) [
-        inl q ↦ (let z : _≡_ {A = Bool} true false = ap (λ v. eqb v 1) (sym p) ∙ (e ∙ ap (λ v. eqb v 1) q) in cc)
-      | inr q ↦ omega arith ] ]
+    | inl q ↦ (let z : _≡_ {A = Bool} true false = ap (λ v. eqb v 1) (sym p) ∙ (e ∙ ap (λ v. eqb v 1) q) in cc)
+    | inr q ↦ omega arith
+  ]
+]
 
 pub same-bits : (n x y : ℕ) → x < 2 ^ n → y < 2 ^ n → ((k : ℕ) → k < n → bit k x ≡ bit k y) → x ≡ y
 same-bits zero x y h l same = omega arith
@@ -92,14 +95,15 @@ same-bits (suc n) x y h l same =
     let d : x % 2 ≡ y % 2 = eqb-digit x y (sym (bit-zero x) ∙ (same 0 (omega arith) ∙ bit-zero y)) in
     let p = pow-suc 2 n in
     let halves : x / 2 ≡ y / 2
-               = same-bits n (x / 2) (y / 2) (omega arith) (omega arith) (λ k m. sym (bit-suc k x) ∙ (same (suc k) (omega arith) ∙ bit-suc k y)) in
+    = same-bits n (x / 2) (y / 2) (omega arith) (omega arith) (λ k m. sym (bit-suc k x) ∙ (same (suc k) (omega arith) ∙ bit-suc k y)) in
     omega arith
 
 -- a word below 2^64 is the packed one if it has its bits and none above
 pub packed : (m x : ℕ) (p : ℕ → Bool) → m ≤ 64 → x < 2 ^ 64
-  → ((k : ℕ) → k < m → bit k x ≡ p k) → ((k : ℕ) → m ≤ k → k < 64 → bit k x ≡ false) → x ≡ pack m p
+    → ((k : ℕ) → k < m → bit k x ≡ p k) → ((k : ℕ) → m ≤ k → k < 64 → bit k x ≡ false) → x ≡ pack m p
 packed m x p h l low high =
     let mono : 2 ^ m ≤ 2 ^ 64 = pow-mono h in
     same-bits 64 x (pack m p) l (omega (arith, pack-lt m p)) (λ k b. elim (cases-lt k m) [
-        inl i ↦ low k i ∙ sym (bit-pack m p k i)
-      | inr o ↦ high k o b ∙ sym (bit-past k m (pack m p) o (pack-lt m p)) ])
+      | inl i ↦ low k i ∙ sym (bit-pack m p k i)
+      | inr o ↦ high k o b ∙ sym (bit-past k m (pack m p) o (pack-lt m p))
+    ])

@@ -24,7 +24,7 @@ LettersBelow n xs = All (λ a. a < n) xs
 -- a list of states of the automaton over the letters below n, no state twice, and all of them if there are at most 64
 pub record Lists-states (f : Ltlf) (n : ℕ) (ss : List ℕ) : Type 0 where
   pub reached : (q : ℕ) → q < length ss
-    → (a : ℕ) × (xs : List ℕ) × (a < n) × LettersBelow n xs × (getD ss q 0 ≡ steps f (first f a) xs)
+      → (a : ℕ) × (xs : List ℕ) × (a < n) × LettersBelow n xs × (getD ss q 0 ≡ steps f (first f a) xs)
   pub apart : (p q : ℕ) → p < length ss → q < length ss → getD ss p 0 ≡ getD ss q 0 → p ≡ q
   pub whole : length ss ≤ 64 → (a : ℕ) (xs : List ℕ) → a < n → LettersBelow n xs → place (steps f (first f a) xs) ss < length ss
 
@@ -34,7 +34,7 @@ Numbers-states = (f : Ltlf) (n : ℕ) → Lists-states f n (states f n)
 -- with at most 64 states, the numbered automaton accepts exactly the letters that satisfy the formula
 abbrev pub Accepts-by-number : Type 0
 Accepts-by-number = (f : Ltlf) (n : ℕ) → length (states f n) ≤ 64
-  → (xs : List ℕ) → LettersBelow n xs → Decides (acceptsByNumber f n xs) (Satisfies xs f)
+    → (xs : List ℕ) → LettersBelow n xs → Decides (acceptsByNumber f n xs) (Satisfies xs f)
 
 -- the formula of a list of operators is the one that the grammar gives it
 abbrev pub Reads-grammar : Type 0

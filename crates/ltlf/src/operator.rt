@@ -42,11 +42,8 @@ impl Operator {
             | Operator::Until
             | Operator::Eventually
             | Operator::Always => true,
-            Operator::True
-            | Operator::Mark(_)
-            | Operator::Not
-            | Operator::And
-            | Operator::Or => false,
+            Operator::True | Operator::Mark(_) | Operator::Not | Operator::And | Operator::Or =>
+                false,
         }
     }
 }

@@ -17,7 +17,7 @@ use Rattle.task.specs.Faults.{faultNumber, taskFault}
 abbrev pub operatorAt : ℕ → Operator
 operatorAt n =
     cond (eqb n 1) Not (cond (eqb n 2) And (cond (eqb n 3) Or (cond (eqb n 4) Next (cond (eqb n 5) Weak
-      (cond (eqb n 6) Until (cond (eqb n 7) Eventually (cond (eqb n 8) Always (cond (leb 16 n && leb n 31) (Mark (n - 16)) True))))))))
+    (cond (eqb n 6) Until (cond (eqb n 7) Eventually (cond (eqb n 8) Always (cond (leb 16 n && leb n 31) (Mark (n - 16)) True))))))))
 
 -- the number of states, or 128 and the number of the refusal
 abbrev pub toldOf : Option Fault → ℕ → ℕ
@@ -28,4 +28,4 @@ toldOf (Some fault) n = 128 + faultNumber fault
 abbrev pub toldFor : ℕ → List ℕ → ℕ
 toldFor p codes =
     cond (ltb 80 (length codes)) 255
-      (toldOf (taskFault p (map operatorAt codes)) (length (states (meaning (map operatorAt codes)) (2 ^ p))))
+    (toldOf (taskFault p (map operatorAt codes)) (length (states (meaning (map operatorAt codes)) (2 ^ p))))

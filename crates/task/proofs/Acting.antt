@@ -14,15 +14,16 @@ use Rattle.task.specs.declared.letter.Letter.{Letter}
 use Rattle.task.specs.Acts.{Acts, ActsAll}
 
 pub acts-more : (f : Ltlf) (a i : ℕ) (ls : List Letter) (l : Letter) → i ≡ a → a < length ls → Acts f a l
-  → ActsAll f a ls → ActsAll f (a + 1) (set ls i l)
+    → ActsAll f a ls → ActsAll f (a + 1) (set ls i l)
 acts-more f a i ls l i-is room acts all b d h = elim (cases-eq b i) [
-    inl e ↦
+  | inl e ↦
       let P : Letter → Type 0 = λ x. Acts f b x in
       let Q : ℕ → Type 0 = λ k. Acts f k l in
       subst P (sym (ap (λ k. getD (set ls i l) k d) e ∙ getD-set-same ls i l d (omega arith))) (subst Q (sym (e ∙ i-is)) acts)
   | inr ne ↦
       let P : Letter → Type 0 = λ x. Acts f b x in
-      subst P (sym (getD-set-other ls i b l d ne)) (all b d (omega arith)) ]
+      subst P (sym (getD-set-other ls i b l d ne)) (all b d (omega arith))
+]
 
 -- at most 64 letters
 pub letter-count : (p w : ℕ) → p ≤ 6 → p < w → ((1 * 2 ^ p) % 2 ^ w ≡ 2 ^ p) × (2 ^ p ≤ 64)

@@ -58,12 +58,12 @@ asked true false c e = let z : _≡_ {A = ℕ} 0 1 = cc in omega arith
 asked false b c e = let z : _≡_ {A = ℕ} 0 1 = cc in omega arith
 
 pub no-formula : (p : ℕ) (os : List Operator) (d : Fault) → ((later : Option Fault) → formulaFault p os later ≡ Some d)
-  → d ≡ NotAFormula → (f : Ltlf) → Writes os f → ⊥
+    → d ≡ NotAFormula → (f : Ltlf) → Writes os f → ⊥
 no-formula p os d refused d-is f w =
     let one : isSome (formula os) ≡ true = ap isSome (reads-grammar os f .1 w) in
     asked ((leb 1 p && leb p 6) && marksBelow p os) (leb (length os) 64) (leb (temporals os) 6)
-      (sym (ap (λ b. ask b NotAFormula (ask ((leb 1 p && leb p 6) && marksBelow p os) OutOfRange (ask (leb (length os) 64) TooManyOperators (ask (leb (temporals os) 6) TooManyTemporal None)))) one)
-        ∙ (refused None ∙ ap Some d-is))
+    (sym (ap (λ b. ask b NotAFormula (ask ((leb 1 p && leb p 6) && marksBelow p os) OutOfRange (ask (leb (length os) 64) TooManyOperators (ask (leb (temporals os) 6) TooManyTemporal None)))) one)
+    ∙ (refused None ∙ ap Some d-is))
 
 -- a checked formula is written by its operators, and has at most six temporal operators
 pub checked-writes : (f : Formula) → Writes (written f) (formulaOf f)
@@ -83,13 +83,13 @@ states-few t = omega (arith, states-count t, t .tables .numbered .fits)
 
 -- what holds of every formula that the letters' tables are of holds of the checked one, at its number of letters
 pub at-letters : (f : Formula) (n : ℕ) (ls : List Letter) (P : Ltlf → ℕ → Type 0) → n ≡ 2 ^ f .marks → ActsAll (formulaOf f) (2 ^ f .marks) ls
-  → ((g : Ltlf) → temporal g ≤ 6 → ActsAll g n ls → P g n) → P (formulaOf f) (2 ^ f .marks)
+    → ((g : Ltlf) → temporal g ≤ 6 → ActsAll g n ls → P g n) → P (formulaOf f) (2 ^ f .marks)
 at-letters f n ls P e acts each =
     subst (P (formulaOf f)) e (each (formulaOf f) (checked-temporal f) (subst (λ k. ActsAll (formulaOf f) k ls) (sym e) acts))
 
 -- the states of a formula that was checked are those of the operators that it was checked from
 pub same-states : (f : Formula) (p : ℕ) (os : List Operator) → written f ≡ os → f .marks ≡ p
-  → states (formulaOf f) (2 ^ f .marks) ≡ states (meaning os) (2 ^ p)
+    → states (formulaOf f) (2 ^ f .marks) ≡ states (meaning os) (2 ^ p)
 same-states f p os os-is p-is = ap (λ x. states (meaning x) (2 ^ f .marks)) os-is ∙ ap (λ k. states (meaning os) (2 ^ k)) p-is
 
 pub listed-few : (m : Numbered) (ss : List ℕ) → listed m ≡ ss → length ss ≤ 64
@@ -113,13 +113,12 @@ accepts-answer f n q h = cond-true (ltb q (length (states f n))) (Some (acceptsN
 
 -- the letters read so far, one more
 module _ (f : Ltlf) (n q₀ : ℕ) (xs : List ℕ) (i q p : ℕ) (h : i < length xs) (at : q ≡ numberAfter f n q₀ (take i xs))
-  (answer : Some p ≡ nextState f n q (getD xs i 0)) where
-
+    (answer : Some p ≡ nextState f n q (getD xs i 0)) where
   pub after-more : p ≡ numberAfter f n q₀ (take (i + 1) xs)
   after-more =
       next-answer f n q (getD xs i 0) p answer .1
-        ∙ (ap (λ k. nextNumber f n k (getD xs i 0)) at
-        ∙ (sym (number-push f n q₀ (take i xs) (getD xs i 0)) ∙ ap (numberAfter f n q₀) (sym (take-more xs i 0 h))))
+      ∙ (ap (λ k. nextNumber f n k (getD xs i 0)) at
+      ∙ (sym (number-push f n q₀ (take i xs) (getD xs i 0)) ∙ ap (numberAfter f n q₀) (sym (take-more xs i 0 h))))
 
   pub letters-more : LettersBelow n (take i xs) → LettersBelow n (take (i + 1) xs)
   letters-more below =
@@ -127,23 +126,23 @@ module _ (f : Ltlf) (n q₀ : ℕ) (xs : List ℕ) (i q p : ℕ) (h : i < length
 
 -- the answer for all letters
 pub whole-answer : (f : Ltlf) (n : ℕ) (letters xs : List ℕ) (a q₀ i q : ℕ) (r : Option Bool) → length (states f n) ≤ 64
-  → letters ≡ a ∷ xs → Some q₀ ≡ firstState f n a → q ≡ numberAfter f n q₀ (take i xs) → length xs ≤ i → q < length (states f n)
-  → LettersBelow n (take i xs) → r ≡ acceptsState f n q
-  → Cases r (LettersBelow n letters → ⊥)
-      (λ b. LettersBelow n letters × (b ≡ acceptsByNumber f n letters) × Decides b (Satisfies letters f))
+    → letters ≡ a ∷ xs → Some q₀ ≡ firstState f n a → q ≡ numberAfter f n q₀ (take i xs) → length xs ≤ i → q < length (states f n)
+    → LettersBelow n (take i xs) → r ≡ acceptsState f n q
+    → Cases r (LettersBelow n letters → ⊥)
+    (λ b. LettersBelow n letters × (b ≡ acceptsByNumber f n letters) × Decides b (Satisfies letters f))
 whole-answer f n letters xs a q₀ i q r few whole start at all known below r-is =
     let begin = first-answer f n a q₀ start in
     let each : LettersBelow n (a ∷ xs) = (begin .0, subst (LettersBelow n) (take-all i xs all) below) in
     let q-is : q ≡ numberAfter f n (firstNumber f n a) xs
-             = at ∙ (ap (numberAfter f n q₀) (take-all i xs all) ∙ ap (λ k. numberAfter f n k xs) (begin .1)) in
+    = at ∙ (ap (numberAfter f n q₀) (take-all i xs all) ∙ ap (λ k. numberAfter f n k xs) (begin .1)) in
     let is : r ≡ Some (acceptsByNumber f n (a ∷ xs))
-           = r-is ∙ (accepts-answer f n q known ∙ ap (λ k. Some (acceptsNumber f n k)) q-is) in
+    = r-is ∙ (accepts-answer f n q known ∙ ap (λ k. Some (acceptsNumber f n k)) q-is) in
     let P : List ℕ → Type 0 = λ ys. Cases (Some (acceptsByNumber f n ys)) (LettersBelow n ys → ⊥)
-              (λ b. LettersBelow n ys × (b ≡ acceptsByNumber f n ys) × Decides b (Satisfies ys f)) in
+    (λ b. LettersBelow n ys × (b ≡ acceptsByNumber f n ys) × Decides b (Satisfies ys f)) in
     let Q : Option Bool → Type 0 = λ o. Cases o (LettersBelow n letters → ⊥)
-              (λ b. LettersBelow n letters × (b ≡ acceptsByNumber f n letters) × Decides b (Satisfies letters f)) in
+    (λ b. LettersBelow n letters × (b ≡ acceptsByNumber f n letters) × Decides b (Satisfies letters f)) in
     subst Q (ap (λ ys. Some (acceptsByNumber f n ys)) whole ∙ sym is)
-      (subst P (sym whole) (each, refl, accepts-by-number f n few (a ∷ xs) each))
+    (subst P (sym whole) (each, refl, accepts-by-number f n few (a ∷ xs) each))
 
 -- a letter that is too large, the first or a later one
 pub first-not-below : (n : ℕ) (letters xs : List ℕ) (a : ℕ) → letters ≡ a ∷ xs → n ≤ a → LettersBelow n letters → ⊥

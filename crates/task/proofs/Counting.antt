@@ -36,7 +36,8 @@ module _ (os : List Operator) (i h : ℕ) (some : 0 < i) (s : Stands os i h) whe
         rest = m .result;
         are = formulas-from os i some (omega arith) (getD os (i - 1) True) refl (s .rest) (s .are) ∙ m .is;
         many = omega (arith, m .length-is);
-        few = omega arith }
+        few = omega arith;
+      }
 
   pub stands-short : h < operands (getD os (i - 1) True) → isSome (formula os) ≡ false
   stands-short l =

@@ -46,7 +46,7 @@ zeros zero w = refl
 zeros (suc n) w = let e = zeros n w in let z = bit-none w in cc
 
 pub seen-none : (os : List Operator) (t a i : ℕ) (s : Words) → i ≡ length os → i ≤ 64
-  → held s ≡ [] → s .top ≡ 64 → told s ≡ replicate (6 - t) 0 → s .number ≡ t → Seen os t a i s
+    → held s ≡ [] → s .top ≡ 64 → told s ≡ replicate (6 - t) 0 → s .number ≡ t → Seen os t a i s
 seen-none os t a i s i-is few held-is top-is told-is number-is =
     let none : drop i os ≡ [] = drop-all i os (omega arith) in
     record {
@@ -57,12 +57,13 @@ seen-none os t a i s i-is few held-is top-is told-is number-is =
       counted = omega (arith, ap temporals none);
       holds = record {
         here = λ w h. ap (map (bit w)) held-is;
-        before = λ w h. ap (map (bit w)) told-is ∙ zeros (6 - t) w } }
+        before = λ w h. ap (map (bit w)) told-is ∙ zeros (6 - t) w;
+      };
+    }
 
 -- one operator more
 module _ (os : List Operator) (fs : List Ltlf) (t a i : ℕ) (s : Words) (o : Operator) (some : 0 < i) (fits : i ≤ length os)
-  (whole : formulas os ≡ Some fs) (t-is : t ≡ temporals os) (o-is : getD os (i - 1) True ≡ o) (seen : Seen os t a i s) where
-
+    (whole : formulas os ≡ Some fs) (t-is : t ≡ temporals os) (o-is : getD os (i - 1) True ≡ o) (seen : Seen os t a i s) where
   more : (gs : List Ltlf) × (formulas (drop (i - 1) os) ≡ Some gs)
   more = end-known os fs (i - 1) whole
 
@@ -71,8 +72,9 @@ module _ (os : List Operator) (fs : List Ltlf) (t a i : ℕ) (s : Words) (o : Op
 
   enough : operands o ≤ length (seen .rest)
   enough = elim (cases-lt (length (seen .rest)) (operands o)) [
-      inl l ↦ absurd (clash (sym (made-short o (seen .rest) l) ∙ makes))
-    | inr l ↦ l ]
+    | inl l ↦ absurd (clash (sym (made-short o (seen .rest) l) ∙ makes))
+    | inr l ↦ l
+  ]
     where
       clash : _≡_ {A = Option (List Ltlf)} None (Some (more .0)) → ⊥
       clash z = let y : _≡_ {A = ℕ} 0 1 = cc in omega arith
@@ -88,21 +90,24 @@ module _ (os : List Operator) (fs : List Ltlf) (t a i : ℕ) (s : Words) (o : Op
 
   -- what the operator asks of the words
   pub ready : (s .top + operands o ≤ 64) × (0 < s .top) × (cond (isTemporal o) 1 0 ≤ s .number)
-  ready =
-      (omega (arith, enough, seen .tall), omega (arith, seen .room),
-        omega (arith, seen .counted, temporals-from os i some fits o o-is, temporals-drop os (i - 1)))
+  ready = (
+    omega (arith, enough, seen .tall),
+    omega (arith, seen .room),
+    omega (arith, seen .counted, temporals-from os i some fits o o-is, temporals-drop os (i - 1)),
+  )
 
   pub seen-more : (s′ : Words) → s′ .top + 1 ≡ s .top + operands o → s′ .number + cond (isTemporal o) 1 0 ≡ s .number
-    → ((fs gs : List Ltlf) (zs : List Bool) → made o fs ≡ Some gs
-        → Evaluates fs zs (s .number) a (held s) (told s) → Evaluates gs zs (s′ .number) a (held s′) (told s′))
-    → Seen os t a (i - 1) s′
+      → ((fs gs : List Ltlf) (zs : List Bool) → made o fs ≡ Some gs
+      → Evaluates fs zs (s .number) a (held s) (told s) → Evaluates gs zs (s′ .number) a (held s′) (told s′))
+      → Seen os t a (i - 1) s′
   seen-more s′ top-is number-is turn = record {
-      rest = more .0;
-      are = more .1;
-      tall = omega (arith, many, seen .tall, top-is);
-      room = omega (arith, seen .room, top-is);
-      counted = omega (arith, seen .counted, temporals-from os i some fits o o-is, number-is);
-      holds = turn (seen .rest) (more .0) (replicate (6 - t) false) makes (seen .holds) }
+    rest = more .0;
+    are = more .1;
+    tall = omega (arith, many, seen .tall, top-is);
+    room = omega (arith, seen .room, top-is);
+    counted = omega (arith, seen .counted, temporals-from os i some fits o o-is, number-is);
+    holds = turn (seen .rest) (more .0) (replicate (6 - t) false) makes (seen .holds);
+  }
 
 head-bit : (w : ℕ) (hs : List ℕ) (b : Bool) (bs : List Bool) → map (bit w) hs ≡ b ∷ bs → bit w (getD hs 0 0) ≡ b
 head-bit w [] b bs e = cc
@@ -114,8 +119,7 @@ number-zeros (suc n) = omega (arith, number-zeros n)
 
 -- the whole list
 module _ (os : List Operator) (t a i : ℕ) (s : Words) (done : i ≤ 0) (one : isSome (formula os) ≡ true) (t-is : t ≡ temporals os)
-  (seen : Seen os t a i s) where
-
+    (seen : Seen os t a i s) where
   none-left : i ≡ 0
   none-left = omega arith
 
@@ -134,25 +138,25 @@ module _ (os : List Operator) (t a i : ℕ) (s : Words) (done : i ≤ 0) (one : 
   pub seen-truth : (w : ℕ) → w < 64 → bit w (getD (held s) 0 0) ≡ truth (meaning os) 0 a w
   seen-truth w h =
       head-bit w (held s) (truth (meaning os) 0 a w) []
-        (seen .holds .here w h ∙ (ap (λ fs. truths fs (s .number) a w) rest-is ∙ ap (λ n. truths (meaning os ∷ []) n a w) number-is))
+      (seen .holds .here w h ∙ (ap (λ fs. truths fs (s .number) a w) rest-is ∙ ap (λ n. truths (meaning os ∷ []) n a w) number-is))
 
   pub seen-earlier : (w : ℕ) → w < 64 → number (map (bit w) (s .earlier)) ≡ earlier (meaning os) a w
   seen-earlier w h =
       let zs : List Bool = replicate (6 - t) false in
       let bits : map (bit w) (s .earlier) ≡ earlierBits (meaning os) 0 a w ++ zs
-               = ap (λ k. map (bit w) (drop k (s .earlier))) (sym number-is)
-                   ∙ (seen .holds .before w h ∙ (ap (λ fs. earlierOf fs (s .number) a w zs) rest-is ∙ ap (λ n. earlierOf (meaning os ∷ []) n a w zs) number-is)) in
+      = ap (λ k. map (bit w) (drop k (s .earlier))) (sym number-is)
+      ∙ (seen .holds .before w h ∙ (ap (λ fs. earlierOf fs (s .number) a w zs) rest-is ∙ ap (λ n. earlierOf (meaning os ∷ []) n a w zs) number-is)) in
       let none : number zs * 2 ^ temporal (meaning os) ≡ 0 = ap (λ x. x * 2 ^ temporal (meaning os)) (number-zeros (6 - t)) ∙ zero-mul _ in
       ap number bits
-        ∙ (number-append (earlierBits (meaning os) 0 a w) zs (temporal (meaning os)) (earlier-length (meaning os) 0 a w) ∙ omega (arith, none))
+      ∙ (number-append (earlierBits (meaning os) 0 a w) zs (temporal (meaning os)) (earlier-length (meaning os) 0 a w) ∙ omega (arith, none))
 
 -- the end forecast, one operator more
 pub end-more : (f : Formula) (i : ℕ) → 0 < i → i ≤ f .count → (bs : List Bool) → endBit (getD (f .operators) (i - 1) True) ≡ bs
-  → (v : ℕ) → v ≡ number (bs ++ endsOf (drop i (written f))) → (v < 64) × (v ≡ number (endsOf (drop (i - 1) (written f))))
+    → (v : ℕ) → v ≡ number (bs ++ endsOf (drop i (written f))) → (v < 64) × (v ≡ number (endsOf (drop (i - 1) (written f))))
 end-more f i some fits bs bit-is v v-is =
     let o = getD (f .operators) (i - 1) True in
     let from : drop (i - 1) (written f) ≡ o ∷ drop i (written f)
-             = operators-from (written f) i some (omega (arith, written-length f)) o (getD-take (f .count) (f .operators) (i - 1) True (omega arith)) in
+    = operators-from (written f) i some (omega (arith, written-length f)) o (getD-take (f .count) (f .operators) (i - 1) True (omega arith)) in
     let is : v ≡ number (endsOf (drop (i - 1) (written f)))
-           = v-is ∙ (ap (λ cs. number (cs ++ endsOf (drop i (written f)))) (sym bit-is) ∙ ap (λ os. number (endsOf os)) (sym from)) in
+    = v-is ∙ (ap (λ cs. number (cs ++ endsOf (drop i (written f)))) (sym bit-is) ∙ ap (λ os. number (endsOf os)) (sym from)) in
     (omega (arith, is, ends-small (written f) (i - 1) (omega (arith, f .counted, f .shallow))), is)

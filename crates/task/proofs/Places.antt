@@ -23,22 +23,24 @@ place-first s (x ∷ ss) (suc i) h here =
 meet-length : (ss : List ℕ) (t : ℕ) → length (meet ss t) ≤ length ss + 1
 meet-length ss t =
     cond-both (ltb (place t ss) (length ss)) ss (ss ++ t ∷ []) (λ x. length x ≤ length ss + 1)
-      (λ e. omega arith) (λ e. omega (arith, length-append ss (t ∷ [])))
+    (λ e. omega arith) (λ e. omega (arith, length-append ss (t ∷ [])))
 
 -- a state has the number that it had, or the next one, once it is met
 pub meet-place : (ss : List ℕ) (t : ℕ) → place t (meet ss t) ≡ place t ss
 meet-place ss t = elim (cases-lt (place t ss) (length ss)) [
-    inl old ↦ meet-keeps ss t t old
+  | inl old ↦ meet-keeps ss t t old
   | inr new ↦
       let p : ℕ = place t (meet ss t) in
       let low = place-le t ss in
       let has = meet-has ss t in
       let long = meet-length ss t in
       elim (cases-lt p (length ss)) [
-        inl l ↦
-          let first : place t ss ≤ p = place-first t ss p l (sym (meet-at ss t p l) ∙ place-getD t (meet ss t) has) in
-          let z : ⊥ = omega arith in elim z [ ]
-      | inr g ↦ omega arith ] ]
+        | inl l ↦
+            let first : place t ss ≤ p = place-first t ss p l (sym (meet-at ss t p l) ∙ place-getD t (meet ss t) has) in
+            let z : ⊥ = omega arith in elim z [ ]
+        | inr g ↦ omega arith
+      ]
+]
 
 -- the first n states of an array, none of them twice
 module _ (n : ℕ) (xs : List ℕ) (fits : n ≤ length xs) where
@@ -58,7 +60,7 @@ apart-meet s n xs room new apart =
     let fits : n ≤ length xs = omega arith in
     let more : n + 1 ≤ length (set xs n s) = simp length-set (omega arith) in
     own-apart (n + 1) (set xs n s) more
-      (subst Own-places (sym (meet-new s n xs fits room new)) (meet-own (take n xs) s (own-front n xs fits apart)))
+    (subst Own-places (sym (meet-new s n xs fits room new)) (meet-own (take n xs) s (own-front n xs fits apart)))
 
 -- a state whose number is not among the first n is not met yet
 pub not-met : (s n : ℕ) (xs : List ℕ) (q : ℕ) → n ≤ length xs → q ≡ place s (take n xs) → n ≤ q → n ≡ place s (take n xs)

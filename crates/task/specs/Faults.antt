@@ -29,9 +29,9 @@ ask false fault later = Some fault
 abbrev pub formulaFault : ℕ → List Operator → Option Fault → Option Fault
 formulaFault p os later =
     ask (isSome (formula os)) NotAFormula
-      (ask ((leb 1 p && leb p 6) && marksBelow p os) OutOfRange
-        (ask (leb (length os) 64) TooManyOperators
-          (ask (leb (temporals os) 6) TooManyTemporal later)))
+    (ask ((leb 1 p && leb p 6) && marksBelow p os) OutOfRange
+    (ask (leb (length os) 64) TooManyOperators
+    (ask (leb (temporals os) 6) TooManyTemporal later)))
 
 -- the first no of all the questions that p marks and the operators are asked, or none
 abbrev pub taskFault : ℕ → List Operator → Option Fault

@@ -18,5 +18,5 @@ returns c =
     let p = c .args .marks in
     let T : List Operator → ℕ = λ os. toldOf (taskFault p os) (length (states (meaning os) (2 ^ p))) in
     c .told .ensures
-      ∙ (ap T (ap (λ k. take k (c .operators-of .result)) (sub-zero (length codes)) ∙ c .operators-of .ensures .same)
-      ∙ sym (cond-false (ltb 80 (length codes)) 255 (T (map operatorAt codes)) (le-ltb 80 (length codes) (c .if-codes-gt80 .left))))
+    ∙ (ap T (ap (λ k. take k (c .operators-of .result)) (sub-zero (length codes)) ∙ c .operators-of .ensures .same)
+    ∙ sym (cond-false (ltb 80 (length codes)) 255 (T (map operatorAt codes)) (le-ltb 80 (length codes) (c .if-codes-gt80 .left))))

@@ -34,7 +34,11 @@ impl Task {
             return Err(Fault::TooManyStates);
         };
         let ending = formula.ending();
-        Ok(Task { formula, tables, ending })
+        Ok(Task {
+            formula,
+            tables,
+            ending,
+        })
     }
 
     pub fn marks(&self) -> u8
@@ -112,8 +116,8 @@ impl Task {
         ensures answer { λ r. ⌜ BySome r
             (LettersBelow (lettersOf (now (self .entry))) (now (letters .entry)) → ⊥)
             (λ b. LettersBelow (lettersOf (now (self .entry))) (now (letters .entry))
-                × (b ≡ acceptsByNumber (taskFormula (now (self .entry))) (lettersOf (now (self .entry))) (now (letters .entry)))
-                × Decides b (Satisfies (now (letters .entry)) (taskFormula (now (self .entry))))) ⌝ }
+            × (b ≡ acceptsByNumber (taskFormula (now (self .entry))) (lettersOf (now (self .entry))) (now (letters .entry)))
+            × Decides b (Satisfies (now (letters .entry)) (taskFormula (now (self .entry))))) ⌝ }
     {
         let Some((letter, rest)) = letters.split_first() else {
             return Some(false);

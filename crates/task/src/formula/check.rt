@@ -71,7 +71,7 @@ impl Formula {
     pub(crate) fn check(marks: u8, operators: &[Operator]) -> Result<Formula, Fault>
         ensures { λ r. ⌜ Cases r
             (λ f. ((later : Option Fault) → formulaFault marks (now (operators .entry)) later ≡ later)
-                × (written f ≡ now (operators .entry)) × (f .marks ≡ marks))
+            × (written f ≡ now (operators .entry)) × (f .marks ≡ marks))
             (λ e. (later : Option Fault) → formulaFault marks (now (operators .entry)) later ≡ Some e) ⌝ }
     {
         if !is_formula(operators) {

@@ -18,7 +18,11 @@ impl Numbered {
     pub(crate) fn none() -> Numbered
         ensures { λ r. ⌜ r .count ≡ 0 ⌝ }
     {
-        Numbered { states: [0; 64], count: 0, hints: [0; 256] }
+        Numbered {
+            states: [0; 64],
+            count: 0,
+            hints: [0; 256],
+        }
     }
 
     // The number of a state by a look at each one.
@@ -49,7 +53,7 @@ impl Numbered {
         ensures { λ r. ⌜ Cases r
             ((64 < length (meetOf (listed (now (self .entry))) state)) × (now (self .exit) ≡ now (self .entry)))
             (λ q. (q < 64) × (q ≡ placeOf state (listed (now (self .entry))))
-                × (listed (now (self .exit)) ≡ meetOf (listed (now (self .entry))) state)) ⌝ }
+            × (listed (now (self .exit)) ≡ meetOf (listed (now (self .entry))) state)) ⌝ }
     {
         let q = self.number(state);
         if q < self.count {

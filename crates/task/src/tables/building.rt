@@ -27,7 +27,11 @@ impl Tables {
         for a in 0..count {
             first[a] = numbered.meet(letters[a].first())?;
         }
-        Some(Tables { numbered, first, next: [0; 4096] })
+        Some(Tables {
+            numbered,
+            first,
+            next: [0; 4096],
+        })
     }
 
     // Meets the states after each letter from the state numbered q.
@@ -37,7 +41,7 @@ impl Tables {
         ensures row { λ r. ⌜ ((f : Ltlf) → temporal f ≤ 6 → ActsAll f count (now (letters .entry)) → Cases r
             (64 < length (meets (step f (getD (listed (now (self .entry) .numbered)) q 0)) count (listed (now (self .entry) .numbered))))
             (λ _. Tabled (step f (getD (listed (now (self .entry) .numbered)) q 0)) count (listed (now (self .entry) .numbered))
-                (listed (now (self .exit) .numbered)) (λ a. getD (now (self .exit) .next) (q * 64 + a) 0))) ⌝ }
+            (listed (now (self .exit) .numbered)) (λ a. getD (now (self .exit) .next) (q * 64 + a) 0))) ⌝ }
         ensures starts { λ _. ⌜ now (self .exit) .first ≡ now (self .entry) .first ⌝ }
         ensures before { λ _. ⌜ ((k : ℕ) → k < q * 64 → getD (now (self .exit) .next) k 0 ≡ getD (now (self .entry) .next) k 0) ⌝ }
     {

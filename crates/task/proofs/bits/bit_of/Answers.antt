@@ -13,4 +13,4 @@ returns-then-k-lt64 c = ap (λ x. eqb x 1) (and-mask (c .args .number / 2 ^ c .a
 pub returns-else-k-lt64 : need.returns-else-k-lt64
 returns-else-k-lt64 c =
     le-ltb (c .args .k) 64 (c .if-k-lt64 .left)
-      ∙ sym (bit-past (c .args .k) 64 (c .args .number) (c .if-k-lt64 .left) (omega arith))
+    ∙ sym (bit-past (c .args .k) 64 (c .args .number) (c .if-k-lt64 .left) (omega arith))

@@ -23,7 +23,8 @@ returns-in-Break-formula c =
     rw (e .1, e .2) (record {
       answer = c .in-Break-formula .ensures tt _;
       grammar = no-formula p os (c .in-Break-formula .field-0 .0) (c .in-Break-formula .ensures tt);
-      theorems = (reads-grammar, numbers-states) })
+      theorems = (reads-grammar, numbers-states);
+    })
 
 pub returns-in-rest : need.returns-in-rest
 returns-in-rest c =
@@ -35,7 +36,8 @@ returns-in-rest c =
     record {
       answer = many-states p os (ok .0) (omega (arith, many, ap length (same-states f p os (ok .1) (ok .2))));
       grammar = λ e. let z : _≡_ {A = ℕ} 0 1 = cc in let none : ⊥ = omega arith in absurd none;
-      theorems = (reads-grammar, numbers-states) }
+      theorems = (reads-grammar, numbers-states);
+    }
 
 pub ghost-result : need.ghost-result
 ghost-result c =
@@ -56,4 +58,5 @@ returns c =
     record {
       answer = (few-states p os (ok .0) (listed-few (t .numbered) (states (meaning os) (2 ^ p)) (right .lists ∙ same-states f p os (ok .1) (ok .2))), ok .1, ok .2);
       grammar = subst W (ok .1) (checked-writes f);
-      theorems = (reads-grammar, numbers-states) }
+      theorems = (reads-grammar, numbers-states);
+    }

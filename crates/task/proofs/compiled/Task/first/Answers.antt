@@ -26,4 +26,5 @@ returns c =
     let h : a < n = omega (arith, c .if-letter-letters .left, c .letters .ensures) in
     record {
       answer = ap {B = Option ℕ} (λ q. Some q) (me .starts a h) ∙ sym (cond-true {A = Option ℕ} (ltb a n) (Some (firstNumber f n a)) None (lt-ltb a n h));
-      within = omega (arith, me .starts a h, first-known f n (states-few me) a h) }
+      within = omega (arith, me .starts a h, first-known f n (states-few me) a h);
+    }

@@ -18,5 +18,5 @@ returns c =
     let q = c .args .state in
     let h : q < length (statesOf me) = omega (arith, c .states .ensures .count, c .if-state-states .left) in
     let at : getD (m .states) q 0 ≡ getD (statesOf me) q 0
-           = sym (getD-take (m .count) (m .states) q 0 (omega (arith, h, states-count me))) ∙ ap (λ ss. getD ss q 0) (me .lists) in
+    = sym (getD-take (m .count) (m .states) q 0 (omega (arith, h, states-count me))) ∙ ap (λ ss. getD ss q 0) (me .lists) in
     ap {B = Option ℕ} (λ s. Some s) at ∙ sym (cond-true {A = Option ℕ} (ltb q (length (statesOf me))) (Some (getD (statesOf me) q 0)) None (lt-ltb q (length (statesOf me)) h))

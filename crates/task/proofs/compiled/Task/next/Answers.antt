@@ -17,8 +17,14 @@ use Rattle.task.proofs.compiled.Task.next.Needs as need
 pub index-self-state : need.index-self-state
 index-self-state c =
     let f = c .args .self .now .formula in
-    omega (arith, c .if-letter-letters .left, c .letters .ensures, c .if-state-states .left, c .states .ensures .few,
-      letter-count (f .marks) 64 (f .few) (omega (arith, f .few)) .1)
+    omega (
+      arith,
+      c .if-letter-letters .left,
+      c .letters .ensures,
+      c .if-state-states .left,
+      c .states .ensures .few,
+      letter-count (f .marks) 64 (f .few) (omega (arith, f .few)) .1,
+    )
 
 pub returns : need.returns
 returns c =
@@ -32,6 +38,7 @@ returns c =
     let at = me .steps q a (omega (arith, l, states-count me), h) in
     record {
       answer = ap {B = Option ℕ} (λ p. Some p) at
-        ∙ sym (cond-true {A = Option ℕ} (ltb q (length (statesOf me)) && ltb a n) (Some (nextNumber f n q a)) None
-            (and-from (ltb q (length (statesOf me))) (ltb a n) (lt-ltb q (length (statesOf me)) l) (lt-ltb a n h)));
-      within = omega (arith, at, next-known f n (states-few me) q a l h) }
+          ∙ sym (cond-true {A = Option ℕ} (ltb q (length (statesOf me)) && ltb a n) (Some (nextNumber f n q a)) None
+          (and-from (ltb q (length (statesOf me))) (ltb a n) (lt-ltb q (length (statesOf me)) l) (lt-ltb a n h)));
+      within = omega (arith, at, next-known f n (states-few me) q a l h);
+    }

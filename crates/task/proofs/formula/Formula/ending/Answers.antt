@@ -22,19 +22,19 @@ loop-i-holds c =
 pub loop-i-again-in-Weak : need.loop-i-again-in-Weak
 loop-i-again-in-Weak c =
     end-more (c .args .self .now) (c .loop-i .i) (c .loop-i-test .taken) (c .loop-i .kept .i) (true ∷ []) (ap endBit (c .in-Weak .is)) (2 * c .loop-i .end + 1)
-      (omega (arith, c .loop-i .inv .1))
+    (omega (arith, c .loop-i .inv .1))
 
 pub loop-i-again-then-is-temporal : need.loop-i-again-then-is-temporal
 loop-i-again-then-is-temporal c =
     end-more (c .args .self .now) (c .loop-i .i) (c .loop-i-test .taken) (c .loop-i .kept .i) (false ∷ [])
-      (end-temporal (getD (c .args .self .now .operators) (c .loop-i .i - 1) True) (c .in-rest .not-Weak) (sym (c .is-temporal .ensures) ∙ c .if-is-temporal .taken))
-      (2 * c .loop-i .end) (omega (arith, c .loop-i .inv .1))
+    (end-temporal (getD (c .args .self .now .operators) (c .loop-i .i - 1) True) (c .in-rest .not-Weak) (sym (c .is-temporal .ensures) ∙ c .if-is-temporal .taken))
+    (2 * c .loop-i .end) (omega (arith, c .loop-i .inv .1))
 
 pub loop-i-again : need.loop-i-again
 loop-i-again c =
     end-more (c .args .self .now) (c .loop-i .i) (c .loop-i-test .taken) (c .loop-i .kept .i) []
-      (end-none (getD (c .args .self .now .operators) (c .loop-i .i - 1) True) (sym (c .is-temporal .ensures) ∙ c .if-is-temporal .left))
-      (c .loop-i .end) (c .loop-i .inv .1)
+    (end-none (getD (c .args .self .now .operators) (c .loop-i .i - 1) True) (sym (c .is-temporal .ensures) ∙ c .if-is-temporal .left))
+    (c .loop-i .end) (c .loop-i .inv .1)
 
 pub returns : need.returns
 returns c =
@@ -42,5 +42,6 @@ returns c =
     let none-left : c .loop-i .i ≡ 0 = omega arith in
     record {
       value = c .loop-i .inv .1
-        ∙ (ap (λ k. number (endsOf (drop k (written me)))) none-left ∙ ends-formula (written me) (meaning (written me)) (formula-known (written me) (me .one)));
-      small = c .loop-i .inv .0 }
+          ∙ (ap (λ k. number (endsOf (drop k (written me)))) none-left ∙ ends-formula (written me) (meaning (written me)) (formula-known (written me) (me .one)));
+      small = c .loop-i .inv .0;
+    }

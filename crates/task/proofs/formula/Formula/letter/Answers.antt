@@ -40,7 +40,7 @@ loop-i-again c =
     let fits : i ≤ length (written me) = omega (arith, written-length me, c .loop-i .kept .i) in
     let is : getD (written me) (i - 1) True ≡ o = getD-take (me .count) (me .operators) (i - 1) True (omega (arith, c .loop-i .kept .i, c .loop-i-test .taken)) in
     seen-more (written me) (meaning (written me) ∷ []) (me .temporals) (c .args .letter) i (c .loop-i .words) o (c .loop-i-test .taken) fits (formulas-known (written me) (me .one)) (me .counted) is (c .loop-i .inv)
-      (c .apply .last .self) (c .apply .ensures .top) (c .apply .ensures .number) (c .apply .ensures .evaluates)
+    (c .apply .last .self) (c .apply .ensures .top) (c .apply .ensures .number) (c .apply .ensures .evaluates)
 
 pub truth-requires : need.truth-requires
 truth-requires c κs =
@@ -52,6 +52,6 @@ returns c =
     let me = c .args .self .now in
     let words = c .loop-i .words in
     c .new .ensures (formulaOf me) (c .args .letter)
-      (temporals-formula (written me) (meaning (written me)) (formula-known (written me) (me .one)) ∙ sym (me .counted))
-      (λ w h. ap (bit w) (c .truth .ensures) ∙ seen-truth (written me) (me .temporals) (c .args .letter) (c .loop-i .i) words (c .loop-i-test .left) (me .one) (me .counted) (c .loop-i .inv) w h)
-      (λ w h. ap (λ es. number (map (bit w) es)) (c .earlier .ensures) ∙ seen-earlier (written me) (me .temporals) (c .args .letter) (c .loop-i .i) words (c .loop-i-test .left) (me .one) (me .counted) (c .loop-i .inv) w h)
+    (temporals-formula (written me) (meaning (written me)) (formula-known (written me) (me .one)) ∙ sym (me .counted))
+    (λ w h. ap (bit w) (c .truth .ensures) ∙ seen-truth (written me) (me .temporals) (c .args .letter) (c .loop-i .i) words (c .loop-i-test .left) (me .one) (me .counted) (c .loop-i .inv) w h)
+    (λ w h. ap (λ es. number (map (bit w) es)) (c .earlier .ensures) ∙ seen-earlier (written me) (me .temporals) (c .args .letter) (c .loop-i .i) words (c .loop-i-test .left) (me .one) (me .counted) (c .loop-i .inv) w h)

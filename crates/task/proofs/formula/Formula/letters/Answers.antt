@@ -14,7 +14,8 @@ index-letters-from c =
 pub loop-a-again : need.loop-a-again
 loop-a-again c =
     let me = c .args .self .now in
-    let many = letter-count (me .marks) 8 (me .few) (omega (arith, me .few)) in
-    (length-set (c .loop-a .letters) (c .from .result) (c .letter .result) ∙ c .loop-a .inv .0,
+    let many = letter-count (me .marks) 8 (me .few) (omega (arith, me .few)) in (
+      length-set (c .loop-a .letters) (c .from .result) (c .letter .result) ∙ c .loop-a .inv .0,
       acts-more (formulaOf me) (c .loop-a .a) (c .from .result) (c .loop-a .letters) (c .letter .result) (c .from .ensures)
-        (omega (arith, c .loop-a .inv .0, c .loop-a-test .taken, many .0, many .1)) (c .letter .ensures) (c .loop-a .inv .1))
+          (omega (arith, c .loop-a .inv .0, c .loop-a-test .taken, many .0, many .1)) (c .letter .ensures) (c .loop-a .inv .1),
+    )

@@ -14,12 +14,13 @@ loop-operator-again c =
     let i = c .loop-operator .operator-index in
     let more = count-more os i (c .loop-operator-test .taken) in
     elim (c .if-is-temporal .came) [
-      then-is-temporal w ↦
-        let one = ap {B = ℕ} (λ b. cond b 1 0) (sym (c .is-temporal .ensures) ∙ w .if-is-temporal .taken) in
-        (omega (arith, w .count-is, c .loop-operator .inv .0), omega (arith, w .count-is, c .loop-operator .inv .1, more, one))
-    | else-is-temporal w ↦
-        let none = ap {B = ℕ} (λ b. cond b 1 0) (sym (c .is-temporal .ensures) ∙ w .if-is-temporal .left) in
-        (omega (arith, w .count-is, c .loop-operator .inv .0), omega (arith, w .count-is, c .loop-operator .inv .1, more, none)) ]
+      | then-is-temporal w ↦
+          let one = ap {B = ℕ} (λ b. cond b 1 0) (sym (c .is-temporal .ensures) ∙ w .if-is-temporal .taken) in
+          (omega (arith, w .count-is, c .loop-operator .inv .0), omega (arith, w .count-is, c .loop-operator .inv .1, more, one))
+      | else-is-temporal w ↦
+          let none = ap {B = ℕ} (λ b. cond b 1 0) (sym (c .is-temporal .ensures) ∙ w .if-is-temporal .left) in
+          (omega (arith, w .count-is, c .loop-operator .inv .0), omega (arith, w .count-is, c .loop-operator .inv .1, more, none))
+    ]
 
 pub returns : need.returns
 returns c =

@@ -13,9 +13,10 @@ loop-i-again c =
     let i = c .loop-i .i in
     let xs = c .loop-i .array in
     let x = getD os i True in
-    let room : i < length xs = omega (arith, c .loop-i .inv .0, c .pre, c .loop-i-test .taken) in
-    (length-set xs i x ∙ c .loop-i .inv .0,
-      take-more-set xs i x room ∙ (ap (λ ys. ys ++ x ∷ []) (c .loop-i .inv .1) ∙ sym (take-more os i True (c .loop-i-test .taken))))
+    let room : i < length xs = omega (arith, c .loop-i .inv .0, c .pre, c .loop-i-test .taken) in (
+      length-set xs i x ∙ c .loop-i .inv .0,
+      take-more-set xs i x room ∙ (ap (λ ys. ys ++ x ∷ []) (c .loop-i .inv .1) ∙ sym (take-more os i True (c .loop-i-test .taken))),
+    )
 
 pub returns : need.returns
 returns c =
@@ -23,4 +24,5 @@ returns c =
     let all : c .loop-i .i ≡ length os = omega (arith, c .loop-i-test .left, c .loop-i .kept .i-end) in
     record {
       same = ap (λ k. take k (c .loop-i .array)) (sym all) ∙ (c .loop-i .inv .1 ∙ take-all (c .loop-i .i) os (c .loop-i-test .left));
-      whole = c .loop-i .inv .0 }
+      whole = c .loop-i .inv .0;
+    }

@@ -15,7 +15,7 @@ returns-then-mark-marks c =
     let i = c .loop-operator .operator-index in
     let p = c .args .marks in
     sym (sym (c .loop-operator .inv)
-      ∙ below-less os i (c .loop-operator-test .taken) p (ap (markBelow p) (c .in-Mark .is) ∙ le-ltb (c .in-Mark .mark) p (c .if-mark-marks .taken)))
+    ∙ below-less os i (c .loop-operator-test .taken) p (ap (markBelow p) (c .in-Mark .is) ∙ le-ltb (c .in-Mark .mark) p (c .if-mark-marks .taken)))
 
 pub loop-operator-again : need.loop-operator-again
 loop-operator-again c =
@@ -23,11 +23,12 @@ loop-operator-again c =
     let i = c .loop-operator .operator-index in
     let p = c .args .marks in
     elim (c .match-operator .came) [
-      in-Mark·else-mark-marks w ↦
-        sym (below-more os i (c .loop-operator-test .taken) p (ap (markBelow p) (w .in-Mark .is) ∙ lt-ltb (w .in-Mark .mark) p (w .if-mark-marks .left)))
+      | in-Mark·else-mark-marks w ↦
+          sym (below-more os i (c .loop-operator-test .taken) p (ap (markBelow p) (w .in-Mark .is) ∙ lt-ltb (w .in-Mark .mark) p (w .if-mark-marks .left)))
           ∙ c .loop-operator .inv
-    | in-rest w ↦
-        sym (below-more os i (c .loop-operator-test .taken) p (no-mark p (getD os i True) (w .in-rest .not-Mark))) ∙ c .loop-operator .inv ]
+      | in-rest w ↦
+          sym (below-more os i (c .loop-operator-test .taken) p (no-mark p (getD os i True) (w .in-rest .not-Mark))) ∙ c .loop-operator .inv
+    ]
 
 pub returns : need.returns
 returns c =

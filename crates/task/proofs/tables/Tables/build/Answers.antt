@@ -23,8 +23,8 @@ returns-in-Break-follow c f few acts =
     let fits : m .count ≤ length (m .states) = search needs in
     let long = front-length 0 (m .count) (m .states) fits in
     rw (c .from-residual-in-Break-follow .ensures)
-      (too-many-later f (c .args .count) (c .loop-q .q) (listed m) (c .loop-q .inv .1 f few acts .lists) (omega (arith, long)) (omega arith)
-        (c .in-Break-follow .ensures tt .row f few acts))
+    (too-many-later f (c .args .count) (c .loop-q .q) (listed m) (c .loop-q .inv .1 f few acts .lists) (omega (arith, long)) (omega arith)
+    (c .in-Break-follow .ensures tt .row f few acts))
 
 pub loop-q-again : need.loop-q-again
 loop-q-again c =
@@ -32,11 +32,13 @@ loop-q-again c =
     let u = c .follow .last .self in
     let m = t .numbered in
     let fits : m .count ≤ length (m .states) = search needs in
-    let long = front-length 0 (m .count) (m .states) fits in
-    (omega arith, λ f few acts.
-      let told = c .in-Continue-follow .ensures tt in
-      built-more f (c .args .count) (c .loop-q .q) (listed m) (listed (u .numbered)) (t .first) (u .first) (t .next) (u .next) (c .pre .few)
-        (c .loop-q .inv .1 f few acts) (omega (arith, long)) (told .row f few acts) (told .starts) (told .before))
+    let long = front-length 0 (m .count) (m .states) fits in (
+      omega arith,
+      λ f few acts.
+          let told = c .in-Continue-follow .ensures tt in
+          built-more f (c .args .count) (c .loop-q .q) (listed m) (listed (u .numbered)) (t .first) (u .first) (t .next) (u .next) (c .pre .few)
+          (c .loop-q .inv .1 f few acts) (omega (arith, long)) (told .row f few acts) (told .starts) (told .before),
+    )
 
 pub returns : need.returns
 returns c f few acts =

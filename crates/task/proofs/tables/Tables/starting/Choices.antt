@@ -10,4 +10,4 @@ use Rattle.task.proofs.tables.Tables.starting.Given as given
 
 abbrev pub Inv-loop-a : given.InvT-loop-a
 Inv-loop-a l = (length (l .first) ≡ 64)
-  × ((f : Ltlf) → ActsAll f (l .count) (l .letters) → Tabled (first f) (l .a) [] (listed (l .numbered)) (λ a. getD (l .first) a 0))
+    × ((f : Ltlf) → ActsAll f (l .count) (l .letters) → Tabled (first f) (l .a) [] (listed (l .numbered)) (λ a. getD (l .first) a 0))

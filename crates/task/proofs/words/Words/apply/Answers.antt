@@ -24,10 +24,11 @@ returns-in-True c =
       top = search needs;
       number = search needs;
       evaluates = λ fs gs zs e.
-        no-operand fs gs zs a (me .number) (last .number) (held me) (told me) (held last) (told last)
+          no-operand fs gs zs a (me .number) (last .number) (held me) (told me) (held last) (told last)
           (me .number) (me .number) (held me) (18446744073709551615 ∷ held me) (told me) refl (cc) refl (cc) (cc)
           top (ap (λ o. made o fs) (sym (c .in-True .is)) ∙ e)
-          (ev-true fs zs a (held me) (told me) (me .number)) }
+          (ev-true fs zs a (held me) (told me) (me .number));
+    }
 
 pub returns-in-Mark : need.returns-in-Mark
 returns-in-Mark c =
@@ -39,10 +40,11 @@ returns-in-Mark c =
       top = search needs;
       number = search needs;
       evaluates = λ fs gs zs e.
-        no-operand fs gs zs a (me .number) (last .number) (held me) (told me) (held last) (told last)
+          no-operand fs gs zs a (me .number) (last .number) (held me) (told me) (held last) (told last)
           (me .number) (me .number) (held me) (x ∷ held me) (told me) refl (cc) refl (cc) (cc)
           (mark (c .in-Mark .mark)) (ap (λ o. made o fs) (sym (c .in-Mark .is)) ∙ e)
-          (ev-mark fs zs a (held me) (told me) (me .number) (c .in-Mark .mark) x (λ w h. c .spread .ensures w h ∙ (cc))) }
+          (ev-mark fs zs a (held me) (told me) (me .number) (c .in-Mark .mark) x (λ w h. c .spread .ensures w h ∙ (cc)));
+    }
 
 pub returns-in-Not : need.returns-in-Not
 returns-in-Not c =
@@ -55,10 +57,11 @@ returns-in-Not c =
       top = search needs;
       number = search needs;
       evaluates = λ fs gs zs e.
-        one-operand fs gs zs a (me .number) (last .number) (held me) (told me) (held last) (told last)
+          one-operand fs gs zs a (me .number) (last .number) (held me) (told me) (held last) (told last)
           (me .number) (me .number) (x ∷ rest) ((18446744073709551615 - x) ∷ rest) (told me) refl (cc) (cc) (cc) (cc)
           neg (ap (λ o. made o fs) (sym (c .in-Not .is)) ∙ e)
-          (λ f hs. ev-not hs zs a rest (told me) f x (me .number) (c .pop-f .ok)) }
+          (λ f hs. ev-not hs zs a rest (told me) f x (me .number) (c .pop-f .ok));
+    }
 
 pub returns-in-And : need.returns-in-And
 returns-in-And c =
@@ -72,10 +75,11 @@ returns-in-And c =
       top = search needs;
       number = search needs;
       evaluates = λ fs gs zs e.
-        two-operands fs gs zs a (me .number) (last .number) (held me) (told me) (held last) (told last)
+          two-operands fs gs zs a (me .number) (last .number) (held me) (told me) (held last) (told last)
           (me .number) (me .number) (x ∷ (y ∷ rest)) (bitAnd x y ∷ rest) (told me) refl (cc) (cc) (cc) (cc)
           conj (ap (λ o. made o fs) (sym (c .in-And .is)) ∙ e)
-          (λ f g hs. ev-and hs zs a rest (told me) f g x y (me .number)) }
+          (λ f g hs. ev-and hs zs a rest (told me) f g x y (me .number));
+    }
 
 pub returns-in-Or : need.returns-in-Or
 returns-in-Or c =
@@ -89,10 +93,11 @@ returns-in-Or c =
       top = search needs;
       number = search needs;
       evaluates = λ fs gs zs e.
-        two-operands fs gs zs a (me .number) (last .number) (held me) (told me) (held last) (told last)
+          two-operands fs gs zs a (me .number) (last .number) (held me) (told me) (held last) (told last)
           (me .number) (me .number) (x ∷ (y ∷ rest)) (bitOr x y ∷ rest) (told me) refl (cc) (cc) (cc) (cc)
           disj (ap (λ o. made o fs) (sym (c .in-Or .is)) ∙ e)
-          (λ f g hs. ev-or hs zs a rest (told me) f g x y (me .number)) }
+          (λ f g hs. ev-or hs zs a rest (told me) f g x y (me .number));
+    }
 
 pub returns-in-Next : need.returns-in-Next
 returns-in-Next c =
@@ -108,16 +113,18 @@ returns-in-Next c =
       top = elim (c .in-Next .is) [ inl e ↦ search needs | inr e ↦ search needs ];
       number = elim (c .in-Next .is) [ inl e ↦ search needs | inr e ↦ search needs ];
       evaluates = λ fs gs zs e. elim (c .in-Next .is) [
-          inl is ↦
+        | inl is ↦
             one-operand fs gs zs a (me .number) m (held me) (told me) (held last) (told last)
-              (suc m) m (x ∷ rest) (y ∷ rest) (x ∷ told me) one-less refl (cc) (cc) (cc)
-              next (ap (λ o. made o fs) (sym is) ∙ e)
-              (λ f hs. ev-next hs zs a rest (told me) f x m y (λ w h. c .forecast-holds .ensures m w (omega arith) h))
+            (suc m) m (x ∷ rest) (y ∷ rest) (x ∷ told me) one-less refl (cc) (cc) (cc)
+            next (ap (λ o. made o fs) (sym is) ∙ e)
+            (λ f hs. ev-next hs zs a rest (told me) f x m y (λ w h. c .forecast-holds .ensures m w (omega arith) h))
         | inr is ↦
             one-operand fs gs zs a (me .number) m (held me) (told me) (held last) (told last)
-              (suc m) m (x ∷ rest) (y ∷ rest) (x ∷ told me) one-less refl (cc) (cc) (cc)
-              weak (ap (λ o. made o fs) (sym is) ∙ e)
-              (λ f hs. ev-weak hs zs a rest (told me) f x m y (λ w h. c .forecast-holds .ensures m w (omega arith) h)) ] }
+            (suc m) m (x ∷ rest) (y ∷ rest) (x ∷ told me) one-less refl (cc) (cc) (cc)
+            weak (ap (λ o. made o fs) (sym is) ∙ e)
+            (λ f hs. ev-weak hs zs a rest (told me) f x m y (λ w h. c .forecast-holds .ensures m w (omega arith) h))
+      ];
+    }
 
 pub returns-in-Until : need.returns-in-Until
 returns-in-Until c =
@@ -135,11 +142,12 @@ returns-in-Until c =
       top = search needs;
       number = search needs;
       evaluates = λ fs gs zs e.
-        two-operands fs gs zs a (me .number) m (held me) (told me) (held last) (told last)
+          two-operands fs gs zs a (me .number) m (held me) (told me) (held last) (told last)
           (suc m) m (x ∷ (y ∷ rest)) (z ∷ rest) (z ∷ told me) one-less refl (cc) (cc) (cc)
           until (ap (λ o. made o fs) (sym (c .in-Until .is)) ∙ e)
           (λ f g hs. ev-until hs zs a rest (told me) f g x y m z
-            (λ w h. bit-or w y (bitAnd x v) ∙ ap (λ b. bit w y || b) (bit-and w x v ∙ ap (λ b. bit w x && b) (c .forecast .ensures m w (omega arith) h)))) }
+          (λ w h. bit-or w y (bitAnd x v) ∙ ap (λ b. bit w y || b) (bit-and w x v ∙ ap (λ b. bit w x && b) (c .forecast .ensures m w (omega arith) h))));
+    }
 
 pub returns-in-Eventually : need.returns-in-Eventually
 returns-in-Eventually c =
@@ -155,11 +163,12 @@ returns-in-Eventually c =
       top = search needs;
       number = search needs;
       evaluates = λ fs gs zs e.
-        one-operand fs gs zs a (me .number) m (held me) (told me) (held last) (told last)
+          one-operand fs gs zs a (me .number) m (held me) (told me) (held last) (told last)
           (suc m) m (x ∷ rest) (bitOr x v ∷ rest) (bitOr x v ∷ told me) one-less refl (cc) (cc) (cc)
           eventually (ap (λ o. made o fs) (sym (c .in-Eventually .is)) ∙ e)
           (λ f hs. ev-eventually hs zs a rest (told me) f x m (bitOr x v)
-            (λ w h. bit-or w x v ∙ ap (λ b. bit w x || b) (c .forecast-in-Eventually .ensures m w (omega arith) h))) }
+          (λ w h. bit-or w x v ∙ ap (λ b. bit w x || b) (c .forecast-in-Eventually .ensures m w (omega arith) h)));
+    }
 
 pub returns-in-Always : need.returns-in-Always
 returns-in-Always c =
@@ -177,8 +186,9 @@ returns-in-Always c =
       top = search needs;
       number = search needs;
       evaluates = λ fs gs zs e.
-        one-operand fs gs zs a (me .number) m (held me) (told me) (held last) (told last)
+          one-operand fs gs zs a (me .number) m (held me) (told me) (held last) (told last)
           (suc m) m (x ∷ rest) ((18446744073709551615 - y) ∷ rest) (y ∷ told me) one-less refl (cc) (cc) (cc)
           always (ap (λ o. made o fs) (sym (c .in-Always .is)) ∙ e)
           (λ f hs. ev-always hs zs a rest (told me) f x m y (c .pop-f-in-Always .ok) y-fits
-            (λ w h. bit-or w (18446744073709551615 - x) v ∙ ap (λ b. bit w (18446744073709551615 - x) || b) (c .forecast-in-Always .ensures m w (omega arith) h))) }
+          (λ w h. bit-or w (18446744073709551615 - x) v ∙ ap (λ b. bit w (18446744073709551615 - x) || b) (c .forecast-in-Always .ensures m w (omega arith) h)));
+    }

@@ -5,7 +5,8 @@ use Rattle.task.proofs.words.Words.none.Needs as need
 
 pub returns : need.returns
 returns c = record {
-    held = refl;
-    top = search needs;
-    told = drop-replicate (c .args .temporals) 6 0;
-    number = search needs }
+  held = refl;
+  top = search needs;
+  told = drop-replicate (c .args .temporals) 6 0;
+  number = search needs;
+}

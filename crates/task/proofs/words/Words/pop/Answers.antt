@@ -9,4 +9,5 @@ returns c =
       held = drop-more (me .stack) (me .top) 0 (search needs);
       top = search needs;
       earlier = search needs;
-      number = search needs }
+      number = search needs;
+    }

@@ -9,4 +9,5 @@ returns c =
       held = pushed (me .stack) (me .top) (c .args .word) (c .pre .room) (search needs);
       top = search needs;
       earlier = search needs;
-      number = search needs }
+      number = search needs;
+    }

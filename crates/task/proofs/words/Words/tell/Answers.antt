@@ -9,4 +9,5 @@ returns c =
       told = pushed (me .earlier) (me .number) (c .args .word) (c .pre .some) (search needs);
       number = search needs;
       top = search needs;
-      stack = search needs }
+      stack = search needs;
+    }
