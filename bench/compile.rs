@@ -1,10 +1,11 @@
-//! How long the proved task compiler takes. Built and run by `bench/run`.
+//! How long the proved task compiler and best values take. Built and run by `bench/run`.
 use std::hint::black_box;
 use std::time::Instant;
 
 #[link(name = "speed", kind = "static")]
 unsafe extern "C" {
     fn jackdawwire_compile(marks: u8, codes: *const u8, length: usize) -> u8;
+    fn jackdawwire_reach(queued: u8) -> u32;
 }
 
 fn compile(marks: u8, codes: &[u8]) -> u8 {
@@ -41,5 +42,17 @@ fn main() {
         let states = compile(marks, codes);
         let time = least(marks, codes, 50, 100);
         println!("{:9}  {:5}  {:6}  {:12.1}  {name}", codes.len(), marks, states, time);
+    }
+    println!();
+    println!("nodes reached  milliseconds  liveness on a shuffled chain of 16,384 nodes with 65,536 arcs");
+    for (name, queued, rounds) in [("with a queue", 1, 50), ("by sweeps alone", 0, 1)] {
+        let mut least = f64::MAX;
+        let mut reached = 0;
+        for _ in 0..rounds {
+            let start = Instant::now();
+            reached = unsafe { jackdawwire_reach(black_box(queued)) };
+            least = least.min(start.elapsed().as_secs_f64() * 1e3);
+        }
+        println!("{reached:13}  {least:12.3}  {name}");
     }
 }

@@ -5,6 +5,7 @@ use Prim.Native.Nat.{ℕ}
 use lib.Dec.{eqb}
 use Rattle.std.specs.declared.option.Option.{Option}
 use Rattle.std.specs.declared.option.Option.the-variants.{Some, None}
+use Rattle.ltlf.specs.Distance.{IsDistance}
 use Rattle.task.specs.declared.compiled.Task.{Task}
 use Rattle.task.specs.Compiled.{taskFormula, lettersOf, firstState, nextState, acceptsState}
 use Rattle.jackdawwire.specs.declared.visit.Visit.{Visit}

@@ -38,10 +38,12 @@ pub fn pass(task: &Task, before: Option<u8>, station: u8) -> Option<Visit>
         None => task.first(letter)?,
     };
     let fulfilled = task.accepts(state)?;
+    let distance = task.distance(state);
     Some(Visit {
         station,
         letter,
         state,
+        distance,
         fulfilled,
     })
 }

@@ -10,3 +10,4 @@ pub mod Counts
 pub mod Suffixes
 pub mod Evaluating
 pub mod Applying
+pub mod Distances

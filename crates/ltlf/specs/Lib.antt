@@ -7,4 +7,5 @@ pub mod Operators
 pub mod Prefix
 pub mod Grammar
 pub mod Evaluation
+pub mod Distance
 pub mod Theorems

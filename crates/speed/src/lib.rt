@@ -7,6 +7,9 @@ ghost use Rattle.ltlf.specs.Numbering.{states};
 ghost use Rattle.ltlf.specs.Prefix.{meaning};
 ghost use Rattle.speed.specs.Codes.{operatorAt, toldOf, toldFor};
 ghost use Rattle.task.specs.Faults.{taskFault};
+
+mod shuffled;
+
 use ltlf::operator::Operator;
 use task::Task;
 

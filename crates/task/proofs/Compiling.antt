@@ -20,7 +20,7 @@ use Rattle.ltlf.specs.Forecasts.{temporal}
 use Rattle.ltlf.specs.Numbering.{states, firstNumber, nextNumber, acceptsNumber, numberAfter, acceptsByNumber}
 use Rattle.ltlf.specs.Prefix.{formula, meaning, marksBelow, temporals}
 use Rattle.ltlf.specs.Theorems.{LettersBelow}
-use Rattle.ltlf.proofs.ByNumber.{accepts-by-number, number-push}
+use Rattle.ltlf.proofs.ByNumber.{accepts-by-number, next-known, number-push}
 use Rattle.ltlf.proofs.Counts.{temporals-formula}
 use Rattle.ltlf.proofs.Places.{front-length}
 use Rattle.ltlf.proofs.Reading.{reads-grammar}
@@ -32,7 +32,10 @@ use Rattle.task.specs.declared.letter.Letter.{Letter}
 use Rattle.task.specs.declared.numbered.Numbered.{Numbered}
 use Rattle.task.specs.declared.compiled.Task.{Task}
 use Rattle.task.specs.Faults.{ask, formulaFault, taskFault}
+use Rattle.task.specs.declared.tables.Tables.{Tables}
 use Rattle.task.specs.Acts.{ActsAll}
+use Rattle.task.specs.StateNet.{Inside}
+use Rattle.task.specs.Tables.{Tabulates}
 use Rattle.task.specs.Listed.{listed}
 use Rattle.task.specs.Written.{written, formulaOf}
 use Rattle.task.specs.Compiled.{statesOf, firstState, nextState, acceptsState}
@@ -152,3 +155,11 @@ pub not-below : (n : ℕ) (letters xs : List ℕ) (a i : ℕ) → letters ≡ a 
 not-below n letters xs a i whole h large below =
     let each : LettersBelow n (a ∷ xs) = subst (LettersBelow n) whole below in
     omega (arith, all-getD (λ x. x < n) xs i 0 h (each .1))
+
+-- the numbers in the table of next states are numbers of states
+pub tables-inside : (f : Ltlf) (n : ℕ) (t : Tables) → Tabulates f n t → Inside (t .numbered .count) n (t .next)
+tables-inside f n t right q a h =
+    let m = t .numbered in
+    let many : length (states f n) ≡ m .count
+    = sym (ap length (right .lists)) ∙ front-length 0 (m .count) (m .states) (omega (arith, m .fits, m .whole)) in
+    omega (arith, right .steps q a (h .0) (h .1), next-known f n (omega (arith, many, m .fits)) q a (omega (arith, many, h .0)) (h .1), many)

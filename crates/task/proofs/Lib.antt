@@ -6,3 +6,5 @@ pub mod Acting
 pub mod Places
 pub mod Tabulating
 pub mod Compiling
+pub mod Stating
+pub mod Seeding

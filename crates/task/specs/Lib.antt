@@ -6,3 +6,4 @@ pub mod Apart
 pub mod Listed
 pub mod Tables
 pub mod Compiled
+pub mod StateNet

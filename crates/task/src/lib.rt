@@ -5,6 +5,7 @@ pub mod fault;
 mod formula;
 mod letter;
 mod numbered;
+mod state_net;
 mod tables;
 mod words;
 

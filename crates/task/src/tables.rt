@@ -15,3 +15,4 @@ pub struct Tables {
 }
 
 pub mod building;
+pub mod distances;

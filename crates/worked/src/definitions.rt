@@ -1,4 +1,5 @@
 use crate::bore_operators;
+use ltlf::operator::Operator;
 use std::test::*;
 use task::Task;
 use task::fault::FaultDebug as _;
@@ -36,4 +37,19 @@ fn worked_letters() -> Result<(), Fail> {
     check_eq(task.next(1, 2), Some(4))?;
     check_eq(task.next(5, 0), None)?;
     check_eq(task.next(4, 4), None)
+}
+
+// The least number of letters to acceptance, and none where nothing leads there.
+#[test]
+fn worked_distances() -> Result<(), Fail> {
+    let task = Task::compile(2, &bore_operators())?;
+    check_eq(task.distance(0), Some(2))?;
+    check_eq(task.distance(1), Some(1))?;
+    check_eq(task.distance(2), Some(1))?;
+    check_eq(task.distance(4), Some(0))?;
+    check_eq(task.distance(5), None)?;
+    let never = [Operator::Always, Operator::Not, Operator::Mark(0)];
+    let safe = Task::compile(1, &never)?;
+    check_eq(safe.distance(0), Some(0))?;
+    check_eq(safe.distance(1), None)
 }

@@ -5,6 +5,7 @@ ghost use Rattle.std.specs.Options.{Cases as BySome};
 ghost use Rattle.std.specs.Orderings.{Decides};
 ghost use Rattle.std.specs.Results.{Cases};
 ghost use Rattle.std.specs.declared.option.Option.the-variants.{Some, None};
+ghost use Rattle.ltlf.specs.Distance.{IsDistance};
 ghost use Rattle.ltlf.specs.Grammar.{Writes};
 ghost use Rattle.ltlf.specs.Ltlf.{Ltlf, Satisfies};
 ghost use Rattle.ltlf.specs.Numbering.{acceptsByNumber};
@@ -30,14 +31,17 @@ impl Task {
         ensures theorems { λ _. ⌜ Reads-grammar ⌝ ∗ ⌜ Numbers-states ⌝ }
     {
         let formula = Formula::check(marks, operators)?;
-        let Some(tables) = Tables::build(&formula.letters(), formula.letter_count()) else {
+        let letters = formula.letter_count();
+        let Some(tables) = Tables::build(&formula.letters(), letters) else {
             return Err(Fault::TooManyStates);
         };
         let ending = formula.ending();
+        let distances = tables.distances(letters, ending);
         Ok(Task {
             formula,
             tables,
             ending,
+            distances,
         })
     }
 
@@ -98,6 +102,22 @@ impl Task {
         ensures { λ r. ⌜ r ≡ acceptsState (taskFormula (now (self .entry))) (lettersOf (now (self .entry))) state ⌝ }
     {
         Some(bit_of(self.ending, self.forecasts(state)?))
+    }
+
+    // The least number of letters from a state to one that accepts; none where no letters lead there.
+    pub fn distance(&self, state: u8) -> Option<u32>
+        ensures answer { λ r. ⌜ (state < length (statesOf (now (self .entry)))
+            → IsDistance (taskFormula (now (self .entry))) (lettersOf (now (self .entry))) state r) ⌝ }
+        ensures unknown { λ r. ⌜ (length (statesOf (now (self .entry))) ≤ state → r ≡ None) ⌝ }
+    {
+        if self.states() <= state {
+            return None;
+        }
+        let distance = self.distances[state as usize];
+        if distance < u32::MAX {
+            return Some(distance);
+        }
+        None
     }
 
     // The forecasts of a state, a bit for each.

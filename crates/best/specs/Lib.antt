@@ -1,0 +1,5 @@
+pub mod Kinds
+pub mod Paths
+pub mod Sweeps
+pub mod Theorems
+pub mod Faults
