@@ -1,7 +1,7 @@
 -- Values that get better, one node at a time.
 use mathlib.Core.Path.{_≡_, refl, sym, ap, subst, _∙_}
 use mathlib.Core.Logic.{⊎-elim}
-use mathlib.Core.List.{List, [], _∷_}
+use mathlib.Core.List.{List, _∷_}
 use Prim.Native.Nat.{ℕ, _+_, _*_, _≤_, _<_}
 use native.Mathlib.Omega.{arith}
 use native.Mathlib.Nat.{le-refl}
@@ -9,7 +9,7 @@ use lib.ListN.{length, getD, set}
 use Rattle.std.proofs.shelf.Lists.{getD-set-same, getD-set-other, length-set, getD-read}
 use Rattle.std.proofs.shelf.Sums.{sumBy-set}
 use Rattle.std.proofs.shelf.Tests.{cases-eq}
-use Rattle.best.specs.Kinds.{Order, Lawful}
+use Rattle.best.specs.Kinds.{Order}
 use Rattle.best.specs.Paths.{Meaning, Closed, Arc, at}
 use Rattle.best.specs.Sweeps.{Via, Traced, Sound, total, Improves}
 

@@ -4,16 +4,15 @@ use mathlib.Core.Logic.{⊎-elim}
 use mathlib.Core.List.{List}
 use Prim.Native.Nat.{ℕ, _+_, _≤_, _<_}
 use native.Mathlib.Omega.{arith}
-use native.Mathlib.Nat.{le-refl}
 use lib.ListN.{length, getD}
 use borrow.Author.Count.{below-none, below-more}
 use Rattle.std.specs.declared.option.Option.{Option}
 use Rattle.std.specs.declared.option.Option.the-variants.{Some, None}
 use Rattle.std.proofs.shelf.Lists.{getD-read}
 use Rattle.std.proofs.shelf.Tests.{cases-lt}
-use Rattle.best.specs.Kinds.{Order, Lawful}
+use Rattle.best.specs.Kinds.{Order}
 use Rattle.best.specs.Paths.{Meaning, at}
-use Rattle.best.specs.Sweeps.{Via, SettledTo, Settled, Better, Pulled}
+use Rattle.best.specs.Sweeps.{Via, SettledTo, Pulled}
 
 none-some : {A : Type 0} {x : Option A} {y : A} → x ≡ None → x ≡ Some y → ⊥
 none-some p q = let z : _≡_ {A = ℕ} 0 1 = cc in omega arith

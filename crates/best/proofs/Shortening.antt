@@ -1,13 +1,13 @@
 -- A path can be made to come to no node twice; it is then no longer than there are nodes, and its value is no worse.
-use mathlib.Core.Path.{_≡_, refl, sym, ap, subst, _∙_}
+use mathlib.Core.Path.{_≡_, ap, subst, _∙_}
 use mathlib.Core.Logic.{_⊎_, inl, inr, ⊎-elim}
 use mathlib.Core.Bool.{Bool, true, false, cond}
 use mathlib.Core.List.{List, [], _∷_}
-use Prim.Native.Nat.{ℕ, zero, suc, _+_, _≤_, _<_}
+use Prim.Native.Nat.{ℕ, zero, suc, _≤_, _<_}
 use native.Mathlib.Omega.{arith}
 use native.Mathlib.Nat.{le-refl}
 use lib.ListN.{length, getD, set, replicate}
-use Rattle.std.specs.shelf.Lists.{sumBy, countBy}
+use Rattle.std.specs.shelf.Lists.{sumBy}
 use Rattle.std.proofs.shelf.Lists.{getD-set-other, getD-replicate, getD-past, length-replicate}
 use Rattle.std.proofs.shelf.Sums.{sumBy-set, getD-le-sumBy, countBy-le-length}
 use Rattle.std.proofs.shelf.Tests.{cases-lt, cases-eq}

@@ -1,14 +1,14 @@
 -- A sweep over the nodes, from the last to the first: what holds after the nodes from one on.
-use mathlib.Core.Path.{_≡_, refl, sym, ap, subst, _∙_}
+use mathlib.Core.Path.{_≡_, refl, sym, ap, subst}
 use mathlib.Core.Logic.{⊎-elim}
 use mathlib.Core.Bool.{Bool, true, false}
 use mathlib.Core.List.{List}
 use Prim.Native.Nat.{ℕ, _+_, _≤_, _<_}
 use native.Mathlib.Omega.{arith}
-use lib.ListN.{length, getD, set}
+use lib.ListN.{length, set}
 use Rattle.std.proofs.shelf.Tests.{cases-eq}
 use Rattle.best.specs.Kinds.{Order}
-use Rattle.best.specs.Paths.{Meaning, Closed, at}
+use Rattle.best.specs.Paths.{Meaning, Closed}
 use Rattle.best.specs.Sweeps.{Settled, Better, total, Outcome, Swept}
 use Rattle.best.proofs.Improving.{improves-none, improves-then, improves-write, total-write}
 

@@ -1,6 +1,6 @@
 -- What it means to pass a station.
 use mathlib.Core.Path.{_≡_}
-use mathlib.Core.Bool.{Bool, cond}
+use mathlib.Core.Bool.{cond}
 use Prim.Native.Nat.{ℕ}
 use lib.Dec.{eqb}
 use Rattle.std.specs.declared.option.Option.{Option}
@@ -25,3 +25,4 @@ Passed t before s None = stateAfter t before (letterAt s) ≡ None
 Passed t before s (Some v) =
     (v .station ≡ s) × (v .letter ≡ letterAt s) × (Some (v .state) ≡ stateAfter t before (letterAt s))
     × (Some (v .fulfilled) ≡ acceptsState (taskFormula t) (lettersOf t) (v .state))
+    × IsDistance (taskFormula t) (lettersOf t) (v .state) (v .distance)

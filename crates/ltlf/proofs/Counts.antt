@@ -4,7 +4,7 @@ use mathlib.Core.Bool.{Bool, true, false}
 use mathlib.Core.List.{List, [], _∷_, _++_, append-assoc}
 use Prim.Native.Nat.{ℕ, _+_, _-_, _^_, _<_, _≤_}
 use native.Mathlib.Omega.{arith}
-use lib.ListN.{length, drop, length-append}
+use lib.ListN.{length, drop}
 use lib.Pow.{pow-mono}
 use Rattle.std.specs.declared.option.Option.the-variants.{Some}
 use Rattle.ltlf.specs.Ltlf.{Ltlf}
@@ -13,7 +13,7 @@ use Rattle.ltlf.specs.Forecasts.{temporal, endBits, ending}
 use Rattle.ltlf.specs.declared.operator.Operator.{Operator}
 use Rattle.ltlf.specs.declared.operator.Operator.the-variants.{True, Mark, Not, And, Or, Next, Weak, Until, Eventually, Always}
 use Rattle.ltlf.specs.Operators.{isTemporal}
-use Rattle.ltlf.specs.Prefix.{formula, meaning, temporals}
+use Rattle.ltlf.specs.Prefix.{formula, temporals}
 use Rattle.ltlf.specs.Grammar.{Writes, is-true, is-mark, is-not, is-and, is-or, is-next, is-weak, is-until, is-eventually, is-always}
 use Rattle.ltlf.proofs.Packs.{number-lt}
 use Rattle.ltlf.proofs.Reading.{reads-grammar}

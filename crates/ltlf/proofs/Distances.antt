@@ -1,8 +1,8 @@
 -- A test for how many letters a state is from acceptance, and the letters themselves.
-use mathlib.Core.Path.{_≡_, refl, sym, _∙_, ap, subst}
-use mathlib.Core.Bool.{Bool, true, false, _&&_, _||_}
+use mathlib.Core.Path.{_≡_, refl, sym, _∙_, ap}
+use mathlib.Core.Bool.{Bool, true, false, _&&_}
 use mathlib.Core.List.{List, [], _∷_}
-use mathlib.Core.Logic.{_⊎_, inl, inr}
+use mathlib.Core.Logic.{inl, inr}
 use Prim.Native.Nat.{ℕ, zero, suc, _≤_, _<_}
 use native.Mathlib.Omega.{arith}
 use lib.Dec.{leb, ltb}
@@ -10,7 +10,7 @@ use lib.ListN.{length}
 use Rattle.std.specs.declared.option.Option.the-variants.{Some, None}
 use Rattle.std.proofs.shelf.Tests.{cases-eq, or-cases, or-left, or-right, both-ways, and-parts, and-from, le-leb, leb-true, lt-ltb, ltb-true}
 use Rattle.ltlf.specs.Ltlf.{Ltlf}
-use Rattle.ltlf.specs.Numbering.{nextNumber, acceptsNumber, numberAfter}
+use Rattle.ltlf.specs.Numbering.{nextNumber, acceptsNumber}
 use Rattle.ltlf.specs.Distance.{Leads, IsDistance, anyBelow, within}
 
 any-found : (n : ℕ) (p : ℕ → Bool) → anyBelow n p ≡ true → (a : ℕ) × (a < n) × (p a ≡ true)

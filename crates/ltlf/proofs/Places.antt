@@ -44,13 +44,6 @@ pub place-getD : (s : ℕ) (ss : List ℕ) → place s ss < length ss → getD s
 place-getD s [] h = let z : ⊥ = omega arith in elim z [ ]
 place-getD s (x ∷ ss) h = getD-cond (eqb x s) x s (place s ss) ss (eqb-true x s) (place-getD s ss) h
 
--- where no state stands twice, each one's place is its index
-pub place-at : (ss : List ℕ) → ((p q : ℕ) → p < length ss → q < length ss → getD ss p 0 ≡ getD ss q 0 → p ≡ q)
-    → (q : ℕ) → q < length ss → place (getD ss q 0) ss ≡ q
-place-at ss apart q h =
-    sym (place-found (getD ss q 0) ss q h
-    (λ k l e. let same : k ≡ q = apart k q (omega arith) h e in omega arith) refl)
-
 -- places in the first n of an array
 module _ (s n : ℕ) (xs : List ℕ) (fits : n ≤ length xs) where
   pub front-length : length (take n xs) ≡ n
@@ -66,10 +59,7 @@ module _ (s n : ℕ) (xs : List ℕ) (fits : n ≤ length xs) where
   front-none nowhere =
       sym front-length ∙ place-none s (take n xs) (λ k l e. nowhere k (omega (arith, front-length)) (sym (getD-take n xs k 0 (omega (arith, front-length))) ∙ e))
 
-  -- meeting one that was met before, and a new one
-  pub meet-old : place s (take n xs) < n → meet (take n xs) s ≡ take n xs
-  meet-old h = cond-true (ltb (place s (take n xs)) (length (take n xs))) (take n xs) (take n xs ++ s ∷ []) (lt-ltb _ _ (omega (arith, front-length)))
-
+  -- meeting a new one
   meet-fresh : n ≡ place s (take n xs) → meet (take n xs) s ≡ take n xs ++ s ∷ []
   meet-fresh h = cond-false (ltb (place s (take n xs)) (length (take n xs))) (take n xs) (take n xs ++ s ∷ []) (le-ltb _ _ (omega (arith, front-length)))
 
@@ -118,9 +108,6 @@ pub meet-begins : (ss : List ℕ) (t : ℕ) → Begins ss (meet ss t)
 meet-begins ss t =
     cond-both (ltb (place t ss) (length ss)) ss (ss ++ t ∷ []) (λ x. Begins ss x)
     (λ e. begins-same ss) (λ e. record { rest = t ∷ []; is = refl })
-
-pub meet-grows : (ss : List ℕ) (s : ℕ) → length ss ≤ length (meet ss s)
-meet-grows ss s = begins-length ss (meet ss s) (meet-begins ss s)
 
 pub meet-at : (ss : List ℕ) (t q : ℕ) → q < length ss → getD (meet ss t) q 0 ≡ getD ss q 0
 meet-at ss t q h = begins-at ss (meet ss t) (meet-begins ss t) q h

@@ -1,8 +1,7 @@
 -- The formulas that the last operators of a list make, one operator more at a time.
 use mathlib.Core.Path.{_≡_, refl, sym, _∙_, ap}
-use mathlib.Core.Bool.{Bool, true, false, cond}
+use mathlib.Core.Bool.{true, cond}
 use mathlib.Core.List.{List, [], _∷_}
-use mathlib.Core.Logic.{_⊎_, inl, inr}
 use Prim.Native.Nat.{ℕ, zero, suc, _+_, _-_, _<_, _≤_}
 use native.Mathlib.Omega.{arith}
 use lib.Dec.{eqb}
@@ -11,7 +10,7 @@ use Rattle.std.specs.Options.{isSome}
 use Rattle.std.specs.declared.option.Option.{Option}
 use Rattle.std.specs.declared.option.Option.the-variants.{Some, None}
 use Rattle.std.proofs.shelf.Lists.{drop-more}
-use Rattle.std.proofs.shelf.Tests.{ne-eqb, cases-lt}
+use Rattle.std.proofs.shelf.Tests.{ne-eqb}
 use Rattle.ltlf.specs.Ltlf.{Ltlf}
 use Rattle.ltlf.specs.declared.operator.Operator.{Operator}
 use Rattle.ltlf.specs.declared.operator.Operator.the-variants.{True, Mark, Not, And, Or, Next, Weak, Until, Eventually, Always}

@@ -1,19 +1,18 @@
 -- The bits of a word that is made of others by `&`, `|` and `!`, and words that are equal since their bits are.
 use mathlib.Core.Path.{_≡_, refl, sym, _∙_, ap}
-use mathlib.Core.Bool.{Bool, true, false, not, _&&_, _||_, cond}
+use mathlib.Core.Bool.{Bool, true, false, not, _&&_, _||_}
 use mathlib.Core.Logic.{_⊎_, inl, inr}
-use Prim.Native.Nat.{ℕ, zero, suc, _+_, _*_, _-_, _/_, _%_, _^_, _<_, _≤_}
+use Prim.Native.Nat.{ℕ, zero, suc, _-_, _/_, _%_, _^_, _<_, _≤_}
 use native.Mathlib.Nat.{pow-suc, div-eq-of-lt, mod-eq-of-lt}
 use native.Mathlib.Omega.{arith}
 use lib.Bits.{bitAnd, bitOr, bitXor, and-shr, or-shr, xor-shr, and-mod, or-mod, xor-mod, xor-add-and, and-mask}
 use lib.Dec.{eqb}
 use lib.Pow.{pow-mono}
-use Rattle.std.specs.Orderings.{Decides}
 use Rattle.std.proofs.shelf.Bits.{mod-below}
-use Rattle.std.proofs.shelf.Tests.{cases-lt, eqb-true}
+use Rattle.std.proofs.shelf.Tests.{cases-lt}
 use Rattle.std.proofs.shelf.Ways.{decides-below-and}
 use Rattle.ltlf.specs.Bits.{bit, pack}
-use Rattle.ltlf.proofs.Packs.{bit-suc, bit-zero, bit-none, bit-pack, pack-lt}
+use Rattle.ltlf.proofs.Packs.{bit-suc, bit-zero, bit-pack, pack-lt}
 
 -- a digit is 0 or 1
 digit : (x : ℕ) → (x % 2 ≡ 0) ⊎ (x % 2 ≡ 1)

@@ -8,7 +8,7 @@ use lib.Dec.{eqb, ltb}
 use Rattle.std.specs.declared.option.Option.{Option}
 use Rattle.std.specs.declared.option.Option.the-variants.{Some, None}
 use Rattle.std.proofs.shelf.Bits.{mod-below}
-use Rattle.std.proofs.shelf.Tests.{and-parts, ltb-true, eqb-true, cond-true, cond-false, and-from, lt-ltb, ne-eqb}
+use Rattle.std.proofs.shelf.Tests.{eqb-true, cond-true, and-from, lt-ltb}
 use Rattle.best.specs.Paths.{Meaning, Closed, Reverses}
 
 -- the node after u on the chain

@@ -1,19 +1,19 @@
 -- The formulas counted from the last operator on, and the temporal operators from the first on.
 use mathlib.Core.Path.{_≡_, refl, sym, _∙_, ap}
-use mathlib.Core.Bool.{Bool, true, false, _&&_, cond}
+use mathlib.Core.Bool.{true, false, _&&_, cond}
 use mathlib.Core.List.{List, []}
 use Prim.Native.Nat.{ℕ, _+_, _-_, _<_, _≤_}
 use native.Mathlib.Omega.{arith}
 use lib.Dec.{eqb}
 use lib.ListN.{length, drop, getD}
 use Rattle.std.specs.Options.{isSome}
-use Rattle.std.specs.declared.option.Option.the-variants.{Some, None}
+use Rattle.std.specs.declared.option.Option.the-variants.{Some}
 use Rattle.std.proofs.shelf.Lists.{drop-all, at-drop-more}
 use Rattle.ltlf.specs.Ltlf.{Ltlf}
 use Rattle.ltlf.specs.declared.operator.Operator.{Operator}
 use Rattle.ltlf.specs.declared.operator.Operator.the-variants.{True, Mark, Not, And, Or, Next, Weak, Until, Eventually, Always}
 use Rattle.ltlf.specs.Operators.{operands, isTemporal}
-use Rattle.ltlf.specs.Prefix.{made, formulas, only, formula, markBelow, marksBelow, temporals}
+use Rattle.ltlf.specs.Prefix.{formulas, only, formula, markBelow, marksBelow, temporals}
 use Rattle.ltlf.proofs.Suffixes.{made-enough, made-short, none-from, formulas-from, only-one}
 
 -- the operators from i on make h formulas

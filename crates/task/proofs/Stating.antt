@@ -1,9 +1,9 @@
 -- Best values over the net of the states are distances: paths of the net are lists of letters.
-use mathlib.Core.Path.{_≡_, refl, sym, _∙_, ap, subst}
-use mathlib.Core.Bool.{Bool, true, false, _&&_, cond}
+use mathlib.Core.Path.{_≡_, refl, sym, _∙_, ap}
+use mathlib.Core.Bool.{true, _&&_, cond}
 use mathlib.Core.List.{List, [], _∷_}
 use mathlib.Core.Logic.{_⊎_, inl, inr, ⊎-elim}
-use Prim.Native.Nat.{ℕ, suc, min, _+_, _*_, _≤_, _<_}
+use Prim.Native.Nat.{ℕ, min, _+_, _*_, _≤_, _<_}
 use native.Mathlib.Omega.{arith}
 use lib.Dec.{leb, ltb}
 use lib.ListN.{length, getD}
@@ -12,7 +12,7 @@ use Rattle.std.specs.declared.option.Option.the-variants.{Some, None}
 use Rattle.std.proofs.shelf.Lists.{getD-default}
 use Rattle.std.proofs.shelf.Tests.{cases-bool, cond-true, and-from, and-parts, lt-ltb, ltb-true, le-leb, leb-true}
 use Rattle.best.specs.Kinds.{counts, Lawful}
-use Rattle.best.specs.Paths.{Path, Arc, back, at, Reached, IsBest}
+use Rattle.best.specs.Paths.{Path, back, at, Reached, IsBest}
 use Rattle.best.proofs.Shortening.{short-paths}
 use Rattle.ltlf.specs.Ltlf.{Ltlf}
 use Rattle.ltlf.specs.Numbering.{nextNumber, acceptsNumber, numberAfter}

@@ -19,9 +19,6 @@ use Rattle.task.specs.declared.tables.Tables.{Tables}
 use Rattle.task.proofs.Places.{meet-place}
 
 -- letter by letter
-pub tabled-none : (g : ℕ → ℕ) (ss : List ℕ) (h : ℕ → ℕ) → Tabled g 0 ss ss h
-tabled-none g ss h = record { lists = refl; numbers = λ a l. let z : ⊥ = omega arith in elim z [ ] }
-
 tabled-known : (g : ℕ → ℕ) (n : ℕ) (ss ts : List ℕ) (h : ℕ → ℕ) → Tabled g n ss ts h → (a : ℕ) → a < n → place (g a) ts < length ts
 tabled-known g n ss ts h t a l =
     let P : List ℕ → Type 0 = λ x. place (g a) x < length x in

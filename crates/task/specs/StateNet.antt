@@ -8,7 +8,6 @@ use lib.Dec.{ltb}
 use lib.ListN.{getD}
 use Rattle.std.specs.declared.option.Option.{Option}
 use Rattle.std.specs.declared.option.Option.the-variants.{Some, None}
-use Rattle.std.proofs.shelf.Tests.{and-parts, ltb-true}
 use Rattle.best.specs.Paths.{Meaning, Closed, Reverses}
 
 -- the arc of state q by letter a, from a table with a row of 64 for each state

@@ -1,12 +1,11 @@
 -- Worked cases of the definitions, each of which the checker computes.
 use mathlib.Core.Path.{_≡_}
-use mathlib.Core.Bool.{Bool, true, false}
-use mathlib.Core.List.{List, [], _∷_, map}
+use mathlib.Core.Bool.{true, false}
+use mathlib.Core.List.{[], _∷_, map}
 use Prim.Native.Nat.{ℕ}
-use lib.ListN.{length}
 use Rattle.std.specs.declared.option.Option.the-variants.{Some}
 use Rattle.ltlf.specs.declared.operator.Operator.the-variants.{Eventually, And, Mark, Next}
-use Rattle.ltlf.specs.Ltlf.{Ltlf, top, mark, neg, conj, next, weak, until, eventually, always, Satisfies}
+use Rattle.ltlf.specs.Ltlf.{Ltlf, top, mark, neg, conj, next, weak, eventually, always, Satisfies}
 use Rattle.ltlf.specs.Automaton.{accepting}
 use Rattle.ltlf.specs.Numbering.{states}
 use Rattle.ltlf.specs.Prefix.{formula}

@@ -1,4 +1,4 @@
-use mathlib.Core.Path.{_≡_, refl, ap, sym, _∙_}
+use mathlib.Core.Path.{ap, sym, _∙_}
 use lib.Bits.{and-mask}
 use lib.Dec.{eqb}
 use Prim.Native.Nat.{_/_, _^_}

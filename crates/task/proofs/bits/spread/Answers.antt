@@ -1,4 +1,4 @@
-use mathlib.Core.Path.{_≡_, sym, _∙_}
+use mathlib.Core.Path.{sym, _∙_}
 use Rattle.ltlf.proofs.Packs.{bit-none}
 use Rattle.ltlf.proofs.Words.{bit-full}
 use Rattle.task.proofs.bits.spread.Needs as need

@@ -1,15 +1,12 @@
-use borrow.Author.Needs.{needs}
-use Prim.Native.Nat.{_-_, _<_, _≤_}
+use Prim.Native.Nat.{_-_, _≤_}
 use mathlib.Core.Path.{_≡_, sym, _∙_, ap}
-use mathlib.Core.Bool.{true}
-use mathlib.Core.List.{List, map, _∷_, []}
+use mathlib.Core.List.{map, _∷_, []}
 use native.Mathlib.Omega.{arith}
-use lib.ListN.{length, getD, take}
-use Rattle.std.specs.Options.{isSome}
+use lib.ListN.{length, getD}
 use Rattle.std.proofs.shelf.Lists.{getD-take}
 use Rattle.ltlf.specs.Bits.{bit, number}
 use Rattle.ltlf.specs.declared.operator.Operator.the-variants.{True}
-use Rattle.ltlf.specs.Prefix.{formula, meaning, temporals}
+use Rattle.ltlf.specs.Prefix.{meaning, temporals}
 use Rattle.ltlf.proofs.Counts.{temporals-formula}
 use Rattle.ltlf.proofs.Suffixes.{formula-known, formulas-known}
 use Rattle.task.specs.Written.{written, formulaOf}

@@ -1,7 +1,5 @@
 use mathlib.Core.Path.{_≡_}
-use Prim.Native.Nat.{ℕ, _<_}
-use lib.ListN.{length, getD}
-use Rattle.task.specs.declared.letter.Letter.{Letter}
+use lib.ListN.{length}
 use Rattle.task.specs.Acts.{ActsAll}
 use Rattle.task.specs.Written.{formulaOf}
 use Rattle.task.proofs.formula.Formula.letters.Given as given

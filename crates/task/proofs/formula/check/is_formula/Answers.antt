@@ -1,9 +1,6 @@
-use mathlib.Core.Path.{_≡_, sym, _∙_, ap, subst}
-use Prim.Native.Nat.{ℕ, _+_, _-_, _<_, _≤_}
+use mathlib.Core.Path.{sym, subst}
+use Prim.Native.Nat.{ℕ, _+_, _-_}
 use native.Mathlib.Omega.{arith}
-use lib.ListN.{getD}
-use Rattle.ltlf.specs.declared.operator.Operator.the-variants.{True}
-use Rattle.ltlf.specs.Operators.{operands}
 use Rattle.task.proofs.Counting.{Stands, stands-none, stands-more, stands-short, stands-all}
 use Rattle.task.proofs.formula.check.is_formula.Needs as need
 

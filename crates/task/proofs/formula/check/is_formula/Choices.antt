@@ -1,5 +1,3 @@
-use Prim.Native.Nat.{_+_, _≤_}
-use lib.ListN.{length, drop}
 use Rattle.task.proofs.Counting.{Stands}
 use Rattle.task.proofs.formula.check.is_formula.Given as given
 

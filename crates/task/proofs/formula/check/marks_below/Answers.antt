@@ -1,9 +1,8 @@
-use mathlib.Core.Path.{_≡_, refl, sym, _∙_, ap}
-use Prim.Native.Nat.{_≤_, _<_}
+use mathlib.Core.Path.{sym, _∙_, ap}
 use lib.ListN.{getD}
 use Rattle.std.proofs.shelf.Lists.{at-drop-all}
 use Rattle.std.proofs.shelf.Tests.{le-ltb, lt-ltb}
-use Rattle.ltlf.specs.declared.operator.Operator.the-variants.{True, Mark}
+use Rattle.ltlf.specs.declared.operator.Operator.the-variants.{True}
 use Rattle.ltlf.specs.Prefix.{marksBelow, markBelow}
 use Rattle.task.proofs.Counting.{below-more, below-less, no-mark}
 use Rattle.task.proofs.formula.check.marks_below.Needs as need

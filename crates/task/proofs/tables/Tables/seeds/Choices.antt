@@ -1,7 +1,3 @@
-use mathlib.Core.Path.{_≡_}
-use mathlib.Core.Bool.{cond}
-use Prim.Native.Nat.{ℕ, _<_}
-use lib.ListN.{length, getD}
 use Rattle.task.proofs.Seeding.{Seeded}
 use Rattle.task.proofs.tables.Tables.seeds.Given as given
 

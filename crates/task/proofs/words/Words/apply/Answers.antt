@@ -3,7 +3,7 @@ use mathlib.Core.Path.{_≡_, refl, sym, _∙_, ap}
 use mathlib.Core.List.{_∷_}
 use mathlib.Core.Bool.{_&&_, _||_}
 use mathlib.Core.Logic.{inl, inr}
-use Prim.Native.Nat.{_+_, _-_, _≤_, _<_, _^_, suc}
+use Prim.Native.Nat.{_-_, _<_, _^_, suc}
 use native.Mathlib.Omega.{arith}
 use lib.Bits.{bitAnd, bitOr, or-lt}
 use Rattle.ltlf.specs.Bits.{bit}

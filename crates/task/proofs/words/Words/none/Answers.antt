@@ -1,6 +1,6 @@
 use borrow.Author.Needs.{needs}
-use mathlib.Core.Path.{_≡_, refl}
-use Rattle.std.proofs.shelf.Lists.{drop-all, drop-replicate, length-replicate}
+use mathlib.Core.Path.{refl}
+use Rattle.std.proofs.shelf.Lists.{drop-replicate}
 use Rattle.task.proofs.words.Words.none.Needs as need
 
 pub returns : need.returns

@@ -1,5 +1,4 @@
-use borrow.Author.Needs.{needs}
-use mathlib.Core.Path.{_≡_, sym, _∙_, ap}
+use mathlib.Core.Path.{sym, _∙_, ap}
 use native.Mathlib.Nat.{add-zero}
 use lib.ListN.{getD}
 use Rattle.std.proofs.shelf.Lists.{getD-drop}
