@@ -21,7 +21,7 @@ fn settle<N: Net, K: Kind<Weight = N::Weight>>(net: &N, values: &mut [K::Value])
     while sweep::<N, K>(net, values) {}
 }
 
-// Best values in memory of just the right length; the queue is used if it has as many words.
+// Best values in memory of just the right length, with a queue of any length, which is 0 afterwards.
 fn best_of<N: Net, K: Kind<Weight = N::Weight>>(net: &N, values: &mut [K::Value], queue: &mut [u32])
     requires { ⌜ length (now values) ≡ (N·Net .meaning (now net)) .nodes ⌝ }
     ensures best { λ _. ⌜ IsBest (K·Kind .order) (N·Net .meaning (now (net .entry))) (now (values .entry)) (now (values .exit)) ⌝ }
@@ -33,8 +33,8 @@ fn best_of<N: Net, K: Kind<Weight = N::Weight>>(net: &N, values: &mut [K::Value]
 }
 
 // Puts each node's best value in the place of its seed: the best, over all paths to a seed, of the seed's value extended
-// backwards. Memory past the nodes keeps what it held. With a queue of as many words as there are nodes it takes few
-// sweeps on any net; these words are 0 afterwards. A shorter queue is not touched.
+// backwards. Memory past the nodes keeps what it held. A queue of as many words as there are nodes is used to save sweeps,
+// as far as the net gives its arcs the other way round; these words are 0 afterwards. A shorter queue is not touched.
 pub fn best<N: Net, K: Kind<Weight = N::Weight>>(
     net: &N,
     values: &mut [K::Value],
