@@ -1,4 +1,6 @@
 // Best values over any net, of any kind of value.
+#![tactic(auto)]
+
 pub mod calls;
 pub mod fault;
 pub mod kind;

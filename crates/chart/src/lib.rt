@@ -1,4 +1,6 @@
 // Charts: stations with letters, and the legs between them.
+#![tactic(auto)]
+
 pub mod any;
 pub mod bore;
 pub mod chart;

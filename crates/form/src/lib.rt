@@ -1,4 +1,6 @@
 // Bracketed forms, one to a line: checked, read, walked through and written.
+#![tactic(auto)]
+
 mod bytes;
 pub mod cursor;
 pub mod fault;

@@ -1,1 +1,1 @@
-pub mod Outlooks
+pub mod Passing

@@ -1,45 +1,38 @@
-// Reads a job from standard input; prints the refusal, or the job as it is written and what its task is up to.
-mod outlook;
+// Follows one task along the stations of a small bore, and prints each station that is passed.
+#![tactic(auto)]
 
-use chart::Chart;
-use job::Job;
-use outlook::look_ahead;
+mod bore;
+mod visit;
+
+use bore::{STATIONS, TASK, letter_of, pass};
 use std::io;
-use std::io::{Read, Write};
+use task::Task;
 
-// Prints the job as it is written, and what its task is up to at the start.
-fn show(rt: &HostRuntime, job: &Job, memory: &mut [u8]) -> io::Result<()> {
-    let length = match job.write(memory) {
-        Ok(length) => length,
-        Err(fault) => {
-            let number = fault.number();
-            return println!(rt; "(refused {number} 0)");
-        }
-    };
-    if let Some(text) = memory.get(0..length) {
-        rt.stdout().write_all(text)?;
+// Passes the stations one by one, and asks at the end whether their letters satisfy the task.
+fn follow(rt: &HostRuntime, task: &Task) -> io::Result<()> {
+    let mut state = None;
+    let mut letters = [0u8; 6];
+    for (i, station) in STATIONS.iter().enumerate() {
+        let Some(visit) = pass(task, state, *station) else {
+            return println!(rt; "(refused 6)");
+        };
+        println!(rt; "{visit}")?;
+        letters[i] = letter_of(*station);
+        state = Some(visit.state);
     }
-    if let Some(task) = job.task() {
-        let letter = job.chart().letter(job.start());
-        if let Some(outlook) = look_ahead(task, letter) {
-            println!(rt; "{outlook}")?;
-        }
+    if let Some(satisfied) = task.satisfied_by(&letters) {
+        let answer = u8::from(satisfied);
+        println!(rt; "(satisfied {answer})")?;
     }
     Ok(())
 }
 
 fn main(rt: HostRuntime) -> io::Result<()> {
-    let mut job = Job::new(rt.alloc())?;
-    let mut memory = vec![in rt.alloc(); 0u8; 65536]?;
-    // one byte more than a text may have, so that a longer one is refused
-    let mut text = Vec::new(rt.alloc());
-    rt.stdin().take(65537).read_to_end(&mut text)?;
-    match job.read(&text) {
-        Ok(_) => show(&rt, &job, &mut memory),
-        Err(refused) => {
-            let number = refused.fault.number();
-            let line = refused.line;
-            println!(rt; "(refused {number} {line})")
+    match Task::compile(2, &TASK) {
+        Ok(task) => follow(&rt, &task),
+        Err(fault) => {
+            let number = fault.number();
+            println!(rt; "(refused {number})")
         }
     }
 }

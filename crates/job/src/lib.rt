@@ -1,4 +1,6 @@
 // Jobs: the record of one, its text, read and written, and the calls that may follow it.
+#![tactic(auto)]
+
 pub mod call;
 pub mod fault;
 mod line;

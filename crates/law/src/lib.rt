@@ -1,1 +1,2 @@
 // What a run is, and the law of whole runs.
+#![tactic(auto)]

@@ -1,4 +1,6 @@
 // The task compiler by numbers, for a benchmark that is written in Rust.
+#![tactic(auto)]
+
 ghost use Rattle.std.specs.Prelude.{◌≡◌, ◌^◌, ◌≤◌, map, length, take};
 ghost use Rattle.ltlf.specs.Numbering.{states};
 ghost use Rattle.ltlf.specs.Prefix.{meaning};

@@ -1,4 +1,6 @@
 // A task: a formula over the letters of P marks, with its automaton in tables.
+#![tactic(auto)]
+
 mod bits;
 pub mod compiled;
 pub mod fault;

@@ -1,4 +1,6 @@
 // Tasks as bracketed forms: from a form to a task, and back.
+#![tactic(auto)]
+
 pub mod compiler;
 mod descent;
 pub mod fault;

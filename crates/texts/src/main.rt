@@ -1,4 +1,6 @@
 // Reads a table of job texts, each with the number and the line that it is to be refused with, and says where they differ.
+#![tactic(auto)]
+
 mod table;
 
 use job::Job;

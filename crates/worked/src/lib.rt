@@ -1,4 +1,6 @@
 // Worked cases: of the definitions, computed by the checker, and of the code, run.
+#![tactic(auto)]
+
 ghost use Rattle.std.specs.Prelude.{◌≡◌, Some};
 ghost use Rattle.law.specs.Theorems.{RunsLawful, SitesStay, GuidesMark, MovesCounted, CallsAnswered, DecisionsPlan, OpeningDetermined, RefusalsDetermined, CallsDetermined};
 ghost use Rattle.law.specs.Worked.{Worked as WorkedRun};

@@ -3,7 +3,7 @@ use Rattle.std.specs.Prelude.{◌≡◌, ℕ, length, Some, None, Option}
 use Rattle.ltlf.specs.Distance.{IsDistance}
 use Rattle.task.specs.Compiled.{task_formula, letters_of, states_of, first_state}
 use Rattle.task.specs.declared.compiled.Task.{Task}
-use Rattle.jackdawwire.specs.declared.outlook.Outlook.{Outlook}
+use Rattle.briefing.specs.declared.outlook.Outlook.{Outlook}
 
 -- the number of states, and the least number of letters from the state after the letter to one that accepts
 abbrev pub Looks : Task → ℕ → Option Outlook → Type 0

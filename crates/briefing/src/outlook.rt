@@ -1,5 +1,5 @@
 ghost use Rattle.std.specs.Prelude.{◌≡◌};
-ghost use Rattle.jackdawwire.specs.Outlooks.{Looks};
+ghost use Rattle.briefing.specs.Outlooks.{Looks};
 
 use std::fmt;
 use task::Task;
