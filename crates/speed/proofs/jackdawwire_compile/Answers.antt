@@ -14,5 +14,5 @@ returns c =
     let p = c.args.marks in
     let T : List Operator → ℕ = λ os. told_of (task_fault p os) (length (states (meaning os) (2 ^ p))) in
     c.told.ensures
-    ∙ (ap T (ap (λ k. take k c.operators-of.result) (sub-zero (length codes)) ∙ c.operators-of.ensures.same)
+    ∙ (ap T (ap (λ k. take k c.operators_of.result) (sub-zero (length codes)) ∙ c.operators_of.ensures.same)
     ∙ sym (cond-false (ltb 80 (length codes)) 255 (T (map operator_at codes)) (le-ltb 80 (length codes) c.if-codes-gt80.false)))

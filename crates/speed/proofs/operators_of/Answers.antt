@@ -8,12 +8,12 @@ loop-i-preserved c =
     let codes = c.args.codes.now in
     let i = c.loop-i.i in
     let xs = c.loop-i.operators in
-    let x = c.operator-of.result in
+    let x = c.operator_of.result in
     let room : i < length xs = omega (arith, c.loop-i.invariant.0, c.requires, c.loop-i-test.true) in (
       length-set xs i x ∙ c.loop-i.invariant.0,
       take_more_set xs i x room
           ∙ (ap (λ ys. ys ++ x ∷ []) c.loop-i.invariant.1
-          ∙ (ap (λ y. map operator_at (take i codes) ++ y ∷ []) c.operator-of.ensures ∙ sym (map_more operator_at codes i 0 c.loop-i-test.true))),
+          ∙ (ap (λ y. map operator_at (take i codes) ++ y ∷ []) c.operator_of.ensures ∙ sym (map_more operator_at codes i 0 c.loop-i-test.true))),
     )
 
 pub returns : goal.returns

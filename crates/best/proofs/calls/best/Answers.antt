@@ -26,12 +26,12 @@ returns-then-queue-nodes g c =
     let xs = c.args.values.now in
     let same = c.nodes-nodes.ensures in
     let fits : n ≤ length xs = omega (arith, same, c.if-values-nodes.false) in
-    let done = c.best-of.ensures.best in
-    let long : length c.best-of.new.values ≡ n = done.long ∙ (ap length (lent n r xs same) ∙ length-take-le n xs fits) in
+    let done = c.best_of.ensures.best in
+    let long : length c.best_of.new.values ≡ n = done.long ∙ (ap length (lent n r xs same) ∙ length-take-le n xs fits) in
     record {
       answer = fits;
-      best = λ h. best_cut g.K.Kind.order m n r xs c.best-of.new.values same fits done;
-      past = cut_drop n r xs c.best-of.new.values same long;
+      best = λ h. best_cut g.K.Kind.order m n r xs c.best_of.new.values same fits done;
+      past = cut_drop n r xs c.best_of.new.values same long;
       theorems = (one_best g.K.Kind.order m, short_paths g.K.Kind.order m);
       queue = queue_short n (length xs) c.args.queue.now fits (omega (arith, same, c.if-queue-nodes.true));
     }
@@ -44,12 +44,12 @@ returns-else-queue-nodes g c =
     let xs = c.args.values.now in
     let same = c.nodes-nodes.ensures in
     let fits : n ≤ length xs = omega (arith, same, c.if-values-nodes.false) in
-    let done = c.best-of-else-queue-nodes.ensures.best in
-    let long : length c.best-of-else-queue-nodes.new.values ≡ n = done.long ∙ (ap length (lent n r xs same) ∙ length-take-le n xs fits) in
+    let done = c.best_of-else-queue-nodes.ensures.best in
+    let long : length c.best_of-else-queue-nodes.new.values ≡ n = done.long ∙ (ap length (lent n r xs same) ∙ length-take-le n xs fits) in
     record {
       answer = fits;
-      best = λ h. best_cut g.K.Kind.order m n r xs c.best-of-else-queue-nodes.new.values same fits done;
-      past = cut_drop n r xs c.best-of-else-queue-nodes.new.values same long;
+      best = λ h. best_cut g.K.Kind.order m n r xs c.best_of-else-queue-nodes.new.values same fits done;
+      past = cut_drop n r xs c.best_of-else-queue-nodes.new.values same long;
       theorems = (one_best g.K.Kind.order m, short_paths g.K.Kind.order m);
-      queue = queue_long n (length xs) c.args.queue.now fits r c.best-of-else-queue-nodes.new.queue same (omega (arith, same, c.if-queue-nodes.false)) c.best-of-else-queue-nodes.ensures.queue;
+      queue = queue_long n (length xs) c.args.queue.now fits r c.best_of-else-queue-nodes.new.queue same (omega (arith, same, c.if-queue-nodes.false)) c.best_of-else-queue-nodes.ensures.queue;
     }

@@ -6,41 +6,41 @@ use Rattle.best.proofs.spread.carry.Goals as goal
 use Rattle.best.proofs.spread.carry.Goals.{then-better, else-better}
 
 -- an arc into a node comes from a node of the net
-from-net : (g : given.Over) (n : g.row.N.Denot) {v k u : ℕ} {w : g.row.N-Weight.Denot}
+from_net : (g : given.Over) (n : g.row.N.Denot) {v k u : ℕ} {w : g.row.N-Weight.Denot}
     → v < (g.N.Net.meaning n).nodes → k < (g.N.Net.reverse n).numbers v → (g.N.Net.reverse n).arc v k ≡ Some (u, w)
     → (u < (g.N.Net.meaning n).nodes) × Arc (g.N.Net.meaning n) u v w
-from-net g n {v} {k} {u} {w} p q e = g.N.Net.reverses n v k u w p q e
+from_net g n {v} {k} {u} {w} p q e = g.N.Net.reverses n v k u w p q e
 
-pub offset-bounds-values-source : goal.offset-bounds-values-source
-offset-bounds-values-source g c =
+pub offset_bounds-values-source : goal.offset_bounds-values-source
+offset_bounds-values-source g c =
     let n = c.in-Some.ensures in
-    let s = from-net g c.args.net.now c.requires.0 n.1 n.3 in
+    let s = from_net g c.args.net.now c.requires.0 n.1 n.3 in
     let h : c.in-Some.arc.1 < length c.loop-arc.values = omega (arith, s.0, c.loop-arc.auto.values, c.requires.1) in
     search rules
 
 pub bounds-values-source : goal.bounds-values-source
 bounds-values-source g c =
     let n = c.in-Some.ensures in
-    let s = from-net g c.args.net.now c.requires.0 n.1 n.3 in
+    let s = from_net g c.args.net.now c.requires.0 n.1 n.3 in
     omega (arith, s.0, c.loop-arc.auto.values, c.requires.1)
 
-pub offset-bounds-values-source-then-better : goal.offset-bounds-values-source-then-better
-offset-bounds-values-source-then-better g c =
+pub offset_bounds-values-source-then-better : goal.offset_bounds-values-source-then-better
+offset_bounds-values-source-then-better g c =
     let n = c.in-Some.ensures in
-    let s = from-net g c.args.net.now c.requires.0 n.1 n.3 in
+    let s = from_net g c.args.net.now c.requires.0 n.1 n.3 in
     let h : c.in-Some.arc.1 < length c.loop-arc.values = omega (arith, s.0, c.loop-arc.auto.values, c.requires.1) in
     search rules
 
 pub bounds-values-source-then-better : goal.bounds-values-source-then-better
 bounds-values-source-then-better g c =
     let n = c.in-Some.ensures in
-    let s = from-net g c.args.net.now c.requires.0 n.1 n.3 in
+    let s = from_net g c.args.net.now c.requires.0 n.1 n.3 in
     omega (arith, s.0, c.loop-arc.auto.values, c.requires.1)
 
 pub loop-arc-preserved : goal.loop-arc-preserved
 loop-arc-preserved g c =
     let n = c.in-Some.ensures in
-    let s = from-net g c.args.net.now c.requires.0 n.1 n.3 in
+    let s = from_net g c.args.net.now c.requires.0 n.1 n.3 in
     let o = g.K.Kind.order in
     let m = g.N.Net.meaning c.args.net.now in
     let xs = c.args.values.now in

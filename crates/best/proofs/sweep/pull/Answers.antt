@@ -13,8 +13,8 @@ within g c =
     let n = c.in-Some.ensures in
     g.N.Net.closed c.args.net.now c.args.node c.in-Some.arc.0 c.in-Some.arc.1 c.in-Some.arc.2 c.requires.0 n.1 n.3
 
-pub offset-bounds-values-to : goal.offset-bounds-values-to
-offset-bounds-values-to g c = omega (arith, within g c)
+pub offset_bounds-values-to : goal.offset_bounds-values-to
+offset_bounds-values-to g c = omega (arith, within g c)
 
 pub bounds-values-to : goal.bounds-values-to
 bounds-values-to g c = omega (arith, within g c)
@@ -34,4 +34,4 @@ loop-arc-preserved g c =
     ]
 
 pub returns : goal.returns
-returns g c = done _ (skips ((g.N.Net.meaning c.args.net.now).numbers c.args.node) c.loop-arc.invariant c.in-default.ensures) refl
+returns g c = done _ (skips ((g.N.Net.meaning c.args.net.now).numbers c.args.node) c.loop-arc.invariant c.in_default.ensures) refl

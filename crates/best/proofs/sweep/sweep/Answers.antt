@@ -12,7 +12,7 @@ loop-node-preserved-in-Some g c =
 pub loop-node-preserved : goal.loop-node-preserved
 loop-node-preserved g c =
     let one_less : c.loop-node.node ≡ c.loop-node.node - 1 + 1 = omega arith in
-    keep _ _ (moved refl refl one_less c.loop-node.invariant) c.in-default.ensures
+    keep _ _ (moved refl refl one_less c.loop-node.invariant) c.in_default.ensures
 
 pub returns : goal.returns
 returns g c = moved refl refl (omega arith) c.loop-node.invariant

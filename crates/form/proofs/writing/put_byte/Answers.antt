@@ -13,4 +13,4 @@ returns c =
       | then-at-memory w ↦ w.memory-is
       | else-at-memory w ↦ w.memory-is ∙ sym (set_past m at b (omega (arith, w.if-at-memory.false)))
     ] in
-    record { place = c.saturating-add.ensures; after = written ∙ set_put at m b }
+    record { place = c.saturating_add.ensures; after = written ∙ set_put at m b }

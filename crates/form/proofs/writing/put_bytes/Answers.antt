@@ -8,7 +8,7 @@ loop-b-init c = puts_none c.args.at c.args.memory.now (omega arith)
 
 pub loop-b-preserved : goal.loop-b-preserved
 loop-b-preserved c =
-    puts_as (sym (take_more c.args.bytes.now c.loop-b.b-index 0 (omega arith))) (puts_then c.loop-b.invariant c.put-byte-place.ensures (omega (arith, c.well-formed.0.0)))
+    puts_as (sym (take_more c.args.bytes.now c.loop-b.b-index 0 (omega arith))) (puts_then c.loop-b.invariant c.put_byte-place.ensures (omega (arith, c.well_formed.0.0)))
 
 pub returns : goal.returns
 returns c = puts_as (take_all _ c.args.bytes.now (omega arith)) c.loop-b.invariant

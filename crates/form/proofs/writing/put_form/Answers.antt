@@ -4,6 +4,6 @@ use Rattle.form.proofs.writing.put_form.Goals as goal
 
 pub returns : goal.returns
 returns c =
-    let a = puts_then c.put-byte-place.ensures c.put-bytes-place.ensures (omega (arith, c.well-formed.0.0)) in
-    let b = puts_then a c.put-numbers-place.ensures (omega (arith, c.well-formed.0.0)) in
-    puts_as (simp append_assoc) (puts_then b c.put-byte.ensures (omega (arith, c.well-formed.0.0)))
+    let a = puts_then c.put_byte-place.ensures c.put_bytes-place.ensures (omega (arith, c.well_formed.0.0)) in
+    let b = puts_then a c.put_numbers-place.ensures (omega (arith, c.well_formed.0.0)) in
+    puts_as (simp append_assoc) (puts_then b c.put_byte.ensures (omega (arith, c.well_formed.0.0)))

@@ -3,5 +3,5 @@ use Rattle.job.proofs.line.read_line.Goals as goal
 
 pub returns : goal.returns
 returns c =
-    let k = c.in-ok-form.ensures.answer in
-    asks_line c.args.bytes.now k.1 _ _ _ _ c.line-of.result k.0 k.2 k.3 k.4 c.head-of.ensures c.values-in.ensures c.line-of.ensures
+    let k = c.in_ok-form.ensures.answer in
+    asks_line c.args.bytes.now k.1 _ _ _ _ c.line_of.result k.0 k.2 k.3 k.4 c.head_of.ensures c.values_in.ensures c.line_of.ensures

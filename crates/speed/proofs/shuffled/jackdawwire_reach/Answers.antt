@@ -19,4 +19,4 @@ returns c =
     let ys = c.best.new.values in
     let xs : List Bool = true ∷ replicate 16383 false in
     let long : length ys ≡ 16384 = c.best.auto.values ∙ one_yes 16383 in
-    (ys, whole shuffled 16384 xs ys (one_yes 16383) (c.best.ensures.best (omega (arith, one_yes 16383))) long, c.count-yes.ensures)
+    (ys, whole shuffled 16384 xs ys (one_yes 16383) (c.best.ensures.best (omega (arith, one_yes 16383))) long, c.count_yes.ensures)

@@ -8,4 +8,4 @@ use Rattle.taskform.proofs.writing.put_task.Goals as goal
 pub returns : goal.returns
 returns c =
     let o = c.operators.ensures in
-    puts_as (ap (λ os. bytes_of (task_tree os)) o.are) (c.put-first-place.ensures.answer _ [] (one_form _ _ o.formula)).0
+    puts_as (ap (λ os. bytes_of (task_tree os)) o.are) (c.put_first-place.ensures.answer _ [] (one_form _ _ o.formula)).0

@@ -8,6 +8,6 @@ pub returns-in-Bore : goal.returns-in-Bore
 returns-in-Bore c =
     let j = c.args.self.now in
     let zones = vec_items j.zones in
-    let h = held_bore j.held (contents_of j) j.stations j.down j.up zones (sym c.is-held.ensures ∙ c.if-not-is-held.false) j.right j.marked
+    let h = held_bore j.held (contents_of j) j.stations j.down j.up zones (sym c.is_held.ensures ∙ c.if-not-is_held.false) j.right j.marked
     (ap (λ k. layout k j.stations j.letters (vec_items j.legs) j.down j.up zones) c.in-Bore.is) in
-    c.of-bore.ensures ∙ (c.bore.ensures h.0 ∙ sym h.1)
+    c.of_bore.ensures ∙ (c.bore.ensures h.0 ∙ sym h.1)

@@ -18,13 +18,13 @@ returns-in-Unset c = puts_as (ap (lines c.args.self.now) (sym c.in-Unset.is)) (p
 pub returns-in-Table : goal.returns-in-Table
 returns-in-Table c =
     let j = c.args.self.now in
-    let a = puts_then c.put-line-place.ensures c.put-labels-place.ensures (omega (arith, c.well-formed.1.0)) in
+    let a = puts_then c.put_line-place.ensures c.put_labels-place.ensures (omega (arith, c.well_formed.1.0)) in
     puts_as (ap (λ ls. (row_bytes (stations j.stations) ++ flat_map row_bytes (label_rows 0 (take j.stations j.letters))) ++ flat_map row_bytes (map leg ls)) c.deref.ensures.value
     ∙ (table_lines j.stations j.letters (vec_items j.legs) (omega (arith, j.few, j.long)) ∙ ap (lines j) (sym c.in-Table.is)))
-    (puts_then a c.put-legs.ensures (omega (arith, c.well-formed.1.0)))
+    (puts_then a c.put_legs.ensures (omega (arith, c.well_formed.1.0)))
 
 pub returns-in-Bore : goal.returns-in-Bore
 returns-in-Bore c =
     let j = c.args.self.now in
     puts_as (ap (λ zs. row_bytes (boring j.stations j.down j.up) ++ flat_map row_bytes (map zone zs)) c.deref-in-Bore.ensures.value ∙ ap (lines j) (sym c.in-Bore.is))
-    (puts_then c.put-line-place-in-Bore.ensures c.put-zones.ensures (omega (arith, c.well-formed.1.0)))
+    (puts_then c.put_line-place-in-Bore.ensures c.put_zones.ensures (omega (arith, c.well_formed.1.0)))

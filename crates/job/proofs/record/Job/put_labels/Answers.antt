@@ -17,7 +17,7 @@ loop-station-preserved c =
       elim c.if-letter-ne0.branch [
         | then-letter-ne0 w ↦ rw (w.place-is, w.memory-is)
             (puts_as (label_more j.letters s (omega (arith, j.few, j.long)) w.if-letter-ne0.true)
-            (puts_then c.loop-station.invariant.1 w.put-label-place.ensures (omega (arith, c.well-formed.1.0))))
+            (puts_then c.loop-station.invariant.1 w.put_label-place.ensures (omega (arith, c.well_formed.1.0))))
         | else-letter-ne0 w ↦ rw (w.place-is, w.memory-is)
             (puts_as (ap (flat_map row_bytes) (label_none j.letters s (omega (arith, j.few, j.long)) w.if-letter-ne0.false)) c.loop-station.invariant.1)
       ],

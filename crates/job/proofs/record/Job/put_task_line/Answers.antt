@@ -4,5 +4,5 @@ use Rattle.job.proofs.record.Job.put_task_line.Goals as goal
 
 pub returns : goal.returns
 returns c =
-    let a = puts_then c.put-bytes-place.ensures c.put-task-form-place.ensures (omega (arith, c.well-formed.1.0)) in
-    puts_as (simp append_assoc) (puts_then a c.put-bytes.ensures (omega (arith, c.well-formed.1.0)))
+    let a = puts_then c.put_bytes-place.ensures c.put_task_form-place.ensures (omega (arith, c.well_formed.1.0)) in
+    puts_as (simp append_assoc) (puts_then a c.put_bytes.ensures (omega (arith, c.well_formed.1.0)))

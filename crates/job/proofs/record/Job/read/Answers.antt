@@ -27,16 +27,16 @@ pub invariant-of-self : goal.invariant-of-self
 invariant-of-self c =
     let p = c.in-Some.ensures in
     let r = sym c.loop-bytes.invariant.0
-    ∙ line_done (draft_of c.loop-bytes.place c.loop-bytes.self) _ _ _ c.loop-bytes.line p.0 p.1 _ c.in-Ok.ensures.taken (sym c.if-is-done.ensures) in
-    let e = held_right c.args.text.now (contents_of c.take-line.new.self) c.in-Some.rest.now c.if-text-gt65536.false r in
+    ∙ line_done (draft_of c.loop-bytes.place c.loop-bytes.self) _ _ _ c.loop-bytes.line p.0 p.1 _ c.in-Ok.ensures.taken (sym c.if-is_done.ensures) in
+    let e = held_right c.args.text.now (contents_of c.take_line.new.self) c.in-Some.rest.now c.if-text-gt65536.false r in
     search rules
 
-pub returns-then-is-done : goal.returns-then-is-done
-returns-then-is-done c =
+pub returns-then-is_done : goal.returns-then-is_done
+returns-then-is_done c =
     let p = c.in-Some.ensures in
     let r = sym c.loop-bytes.invariant.0
-    ∙ line_done (draft_of c.loop-bytes.place c.loop-bytes.self) _ _ _ c.loop-bytes.line p.0 p.1 _ c.in-Ok.ensures.taken (sym c.if-is-done.ensures) in
-    record { answer = (r, refl); written = job_right.writes c.args.text.now (contents_of c.take-line.new.self) c.in-Some.rest.now r; theorems = job_right }
+    ∙ line_done (draft_of c.loop-bytes.place c.loop-bytes.self) _ _ _ c.loop-bytes.line p.0 p.1 _ c.in-Ok.ensures.taken (sym c.if-is_done.ensures) in
+    record { answer = (r, refl); written = job_right.writes c.args.text.now (contents_of c.take_line.new.self) c.in-Some.rest.now r; theorems = job_right }
 
 pub loop-bytes-smaller : goal.loop-bytes-smaller
 loop-bytes-smaller c =
@@ -46,7 +46,7 @@ pub loop-bytes-preserved : goal.loop-bytes-preserved
 loop-bytes-preserved c =
     let p = c.in-Some.ensures in
     let s = line_shorter (draft_of c.loop-bytes.place c.loop-bytes.self) _ _ _ c.loop-bytes.line p.0 p.1 in (
-      sym (line_next (draft_of c.loop-bytes.place c.loop-bytes.self) _ _ _ c.loop-bytes.line p.0 p.1 _ c.in-Ok.ensures.taken (sym c.if-is-done.ensures)) ∙ c.loop-bytes.invariant.0,
+      sym (line_next (draft_of c.loop-bytes.place c.loop-bytes.self) _ _ _ c.loop-bytes.line p.0 p.1 _ c.in-Ok.ensures.taken (sym c.if-is_done.ensures)) ∙ c.loop-bytes.invariant.0,
       omega (arith, c.loop-bytes.invariant.1),
       c.in-Ok.ensures.unheld,
     )
@@ -56,8 +56,8 @@ returns c =
     record {
       answer = (
         sym c.loop-bytes.invariant.0
-            ∙ (end_read c.loop-bytes.left.now (draft_of c.loop-bytes.place c.loop-bytes.self) [] c.loop-bytes.line c.in-default.ensures
-            ∙ ap (λ x. Err (record { fault = x; line = c.loop-bytes.line })) (sym c.last-fault.ensures)),
+            ∙ (end_read c.loop-bytes.left.now (draft_of c.loop-bytes.place c.loop-bytes.self) [] c.loop-bytes.line c.in_default.ensures
+            ∙ ap (λ x. Err (record { fault = x; line = c.loop-bytes.line })) (sym c.last_fault.ensures)),
         c.clear-2.ensures.emptied,
         c.clear-2.ensures.unheld,
       );

@@ -8,43 +8,43 @@ use Rattle.job.specs.Compiling.{is_task}
 use Rattle.job.specs.Records.{draft_of}
 use Rattle.job.specs.Taking.{rank}
 use Rattle.job.proofs.Tasked.{task_misplaced, task_refused, task_taken}
-use Rattle.job.proofs.record.Job.task_line.Goals.{else-is-task-via-then-is-task+else-not-takes-task, else-is-task-via-else-is-task}
+use Rattle.job.proofs.record.Job.task_line.Goals.{else-is_task-via-then-is_task+else-not-takes_task, else-is_task-via-else-is_task}
 use Rattle.job.proofs.record.Job.task_line.Goals as goal
 
-pub returns-then-not-takes-task : goal.returns-then-not-takes-task
-returns-then-not-takes-task c =
+pub returns-then-not-takes_task : goal.returns-then-not-takes_task
+returns-then-not-takes_task c =
     record {
       unheld = c.requires;
       taken = λ f g e. task_misplaced (draft_of c.args.place c.args.self.now) c.args.text.now f g e c.compile-made.result c.compile-made.ensures.answer
-          (sym c.if-is-task.ensures) (sym c.if-not-takes-task.ensures);
+          (sym c.if-is_task.ensures) (sym c.if-not-takes_task.ensures);
     }
 
-pub returns-in-err-made : goal.returns-in-err-made
-returns-in-err-made c =
-    let e = err_from_is_err_and c.from-residual.result c.from-residual.ensures.1 in
-    let w = c.in-err-made.was in
+pub returns-in_err-made : goal.returns-in_err-made
+returns-in_err-made c =
+    let e = err_from_is_err_and c.from_residual.result c.from_residual.ensures.1 in
+    let w = c.in_err-made.was in
     let placed : is_task c.compile-made.result ≡ true → among 3 5 (rank c.args.place) ≡ true =
-    λ i. elim c.else-is-task.branch [
-      | else-is-task-via-then-is-task+else-not-takes-task v ↦ sym v.takes-task.ensures ∙ v.if-not-takes-task.false
-      | else-is-task-via-else-is-task v ↦ (let z : true ≡ false = sym i ∙ (sym c.is-task.ensures ∙ v.if-is-task.false) in let y : ◌≡◌ {A = ℕ} 0 1 = cc in absurd (omega arith))
+    λ i. elim c.else-is_task.branch [
+      | else-is_task-via-then-is_task+else-not-takes_task v ↦ sym v.takes_task.ensures ∙ v.if-not-takes_task.false
+      | else-is_task-via-else-is_task v ↦ (let z : true ≡ false = sym i ∙ (sym c.is_task.ensures ∙ v.if-is_task.false) in let y : ◌≡◌ {A = ℕ} 0 1 = cc in absurd (omega arith))
     ] in
     record {
       unheld = c.requires;
-      taken = λ f g s. rw (e.1, e.2) (task_refused (draft_of c.args.place c.args.self.now) c.args.text.now f g s c.in-err-made.field-0.0
+      taken = λ f g s. rw (e.1, e.2) (task_refused (draft_of c.args.place c.args.self.now) c.args.text.now f g s c.in_err-made.field-0.0
           (subst (λ (r : Result Task Fault). Compiled c.args.self.now.marks c.args.text.now r) w c.compile-made.ensures.answer)
           (λ i. placed (ap is_task w ∙ i)));
     }
 
 pub returns : goal.returns
 returns c =
-    let w = c.in-ok-made.was in
+    let w = c.in_ok-made.was in
     let placed : among 3 5 (rank c.args.place) ≡ true =
-    elim c.else-is-task.branch [
-      | else-is-task-via-then-is-task+else-not-takes-task v ↦ sym v.takes-task.ensures ∙ v.if-not-takes-task.false
-      | else-is-task-via-else-is-task v ↦ (let z : true ≡ false = sym (ap is_task w) ∙ (sym c.is-task.ensures ∙ v.if-is-task.false) in let y : ◌≡◌ {A = ℕ} 0 1 = cc in absurd (omega arith))
+    elim c.else-is_task.branch [
+      | else-is_task-via-then-is_task+else-not-takes_task v ↦ sym v.takes_task.ensures ∙ v.if-not-takes_task.false
+      | else-is_task-via-else-is_task v ↦ (let z : true ≡ false = sym (ap is_task w) ∙ (sym c.is_task.ensures ∙ v.if-is_task.false) in let y : ◌≡◌ {A = ℕ} 0 1 = cc in absurd (omega arith))
     ] in
     record {
       unheld = c.requires;
-      taken = λ f g s. task_taken (draft_of c.args.place c.args.self.now) c.args.text.now f g s c.in-ok-made.field-0
+      taken = λ f g s. task_taken (draft_of c.args.place c.args.self.now) c.args.text.now f g s c.in_ok-made.field-0
           (subst (λ (r : Result Task Fault). Compiled c.args.self.now.marks c.args.text.now r) w c.compile-made.ensures.answer) placed;
     }

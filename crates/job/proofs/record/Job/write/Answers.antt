@@ -13,8 +13,8 @@ pub returns : goal.returns
 returns c =
     let j = c.args.self.now in
     let m = c.args.memory.now in
-    let long : length m ≤ 18446744073709551615 = omega (arith, c.well-formed.1.0) in
-    let e : write_fault j.held (length (writing (contents_of j))) (length m) ≡ None = sym c.refusal.ensures ∙ c.in-default.is in
+    let long : length m ≤ 18446744073709551615 = omega (arith, c.well_formed.1.0) in
+    let e : write_fault j.held (length (writing (contents_of j))) (length m) ≡ None = sym c.refusal.ensures ∙ c.in_default.is in
     let w = written j.held (contents_of j) j.right m _ _ c.put.ensures long e in
     record {
       answer = (e, w.0, w.1);

@@ -11,7 +11,7 @@ loop-leg-init c = puts_none c.args.at c.args.memory.now (omega arith)
 
 pub loop-leg-preserved : goal.loop-leg-preserved
 loop-leg-preserved c =
-    puts_as (rows_more leg c.args.legs.now c.loop-leg.leg-index _ (omega arith)) (puts_then c.loop-leg.invariant c.put-leg-place.ensures (omega (arith, c.well-formed.0.0)))
+    puts_as (rows_more leg c.args.legs.now c.loop-leg.leg-index _ (omega arith)) (puts_then c.loop-leg.invariant c.put_leg-place.ensures (omega (arith, c.well_formed.0.0)))
 
 pub returns : goal.returns
 returns c = puts_as (ap (λ x. flat_map row_bytes (map leg x)) (take_all _ c.args.legs.now (omega arith))) c.loop-leg.invariant

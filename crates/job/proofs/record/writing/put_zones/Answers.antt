@@ -11,7 +11,7 @@ loop-zone-init c = puts_none c.args.at c.args.memory.now (omega arith)
 
 pub loop-zone-preserved : goal.loop-zone-preserved
 loop-zone-preserved c =
-    puts_as (rows_more zone c.args.zones.now c.loop-zone.zone-index _ (omega arith)) (puts_then c.loop-zone.invariant c.put-zone-place.ensures (omega (arith, c.well-formed.0.0)))
+    puts_as (rows_more zone c.args.zones.now c.loop-zone.zone-index _ (omega arith)) (puts_then c.loop-zone.invariant c.put_zone-place.ensures (omega (arith, c.well_formed.0.0)))
 
 pub returns : goal.returns
 returns c = puts_as (ap (λ x. flat_map row_bytes (map zone x)) (take_all _ c.args.zones.now (omega arith))) c.loop-zone.invariant

@@ -12,24 +12,24 @@ use Rattle.task.specs.Written.{formula_of}
 use Rattle.task.proofs.Compiling.{many_states, few_states, no_formula, checked_writes, at_letters, same_states, listed_few, tables_inside}
 use Rattle.task.proofs.compiled.Task.compile.Goals as goal
 
-pub returns-in-err-formula : goal.returns-in-err-formula
-returns-in-err-formula c =
+pub returns-in_err-formula : goal.returns-in_err-formula
+returns-in_err-formula c =
     let os = c.args.operators.now in
     let p = c.args.marks in
-    let e = err_from_is_err_and c.from-residual.result c.from-residual.ensures.1 in
+    let e = err_from_is_err_and c.from_residual.result c.from_residual.ensures.1 in
     rw (e.1, e.2) (record {
-      answer = c.in-err-formula.ensures _;
-      grammar = no_formula p os c.in-err-formula.field-0.0 c.in-err-formula.ensures;
+      answer = c.in_err-formula.ensures _;
+      grammar = no_formula p os c.in_err-formula.field-0.0 c.in_err-formula.ensures;
       theorems = (reads_grammar, numbers_states);
     })
 
-pub returns-in-default : goal.returns-in-default
-returns-in-default c =
+pub returns-in_default : goal.returns-in_default
+returns-in_default c =
     let os = c.args.operators.now in
     let p = c.args.marks in
-    let f = c.in-ok-formula.formula in
-    let ok = c.in-ok-formula.ensures in
-    let many = at_letters f c.letter-count-letters.result c.letters.result (λ g n. 64 < length (states g n)) c.letter-count-letters.ensures.is c.letters.ensures c.in-default.ensures in
+    let f = c.in_ok-formula.formula in
+    let ok = c.in_ok-formula.ensures in
+    let many = at_letters f c.letter_count-letters.result c.letters.result (λ g n. 64 < length (states g n)) c.letter_count-letters.ensures.is c.letters.ensures c.in_default.ensures in
     record {
       answer = many_states p os ok.0 (omega (arith, many, ap length (same_states f p os ok.1 ok.2)));
       grammar = λ e. let z : ◌≡◌ {A = ℕ} 0 1 = cc in let none : ⊥ = omega arith in absurd none;
@@ -38,22 +38,22 @@ returns-in-default c =
 
 pub distances-distances-requires : goal.distances-distances-requires
 distances-distances-requires c =
-    let f = c.in-ok-formula.formula in
+    let f = c.in_ok-formula.formula in
     let t = c.in-Some.tables in
-    let n = c.letter-count-letters.result in
-    let is = c.letter-count-letters.ensures.is in
+    let n = c.letter_count-letters.result in
+    let is = c.letter_count-letters.ensures.is in
     let right = at_letters f n c.letters.result (λ g k. Tabulates g k t) is c.letters.ensures c.in-Some.ensures in
     record {
-      short = c.letter-count-letters.ensures.few;
+      short = c.letter_count-letters.ensures.few;
       inside = tables_inside (formula_of f) n t (subst (λ k. Tabulates (formula_of f) k t) (sym is) right);
     }
 
 pub invariant-of-result : goal.invariant-of-result
 invariant-of-result c =
-    let f = c.in-ok-formula.formula in
+    let f = c.in_ok-formula.formula in
     let t = c.in-Some.tables in
-    let n = c.letter-count-letters.result in
-    let is = c.letter-count-letters.ensures.is in
+    let n = c.letter_count-letters.result in
+    let is = c.letter_count-letters.ensures.is in
     let right = at_letters f n c.letters.result (λ g k. Tabulates g k t) is c.letters.ensures c.in-Some.ensures in
     let ds = c.distances-distances.result in
     let tests = c.distances-distances.ensures (formula_of f) (subst (λ k. Tabulates (formula_of f) k t) (sym is) right) c.ending-ending.ensures.value in
@@ -72,10 +72,10 @@ pub returns : goal.returns
 returns c =
     let os = c.args.operators.now in
     let p = c.args.marks in
-    let f = c.in-ok-formula.formula in
+    let f = c.in_ok-formula.formula in
     let t = c.in-Some.tables in
-    let ok = c.in-ok-formula.ensures in
-    let right = at_letters f c.letter-count-letters.result c.letters.result (λ g n. Tabulates g n t) c.letter-count-letters.ensures.is c.letters.ensures c.in-Some.ensures in
+    let ok = c.in_ok-formula.ensures in
+    let right = at_letters f c.letter_count-letters.result c.letters.result (λ g n. Tabulates g n t) c.letter_count-letters.ensures.is c.letters.ensures c.in-Some.ensures in
     let W : List Operator → Type 0 = λ x. Writes x (formula_of f) in
     record {
       answer = (few_states p os ok.0 (listed_few t.numbered (states (meaning os) (2 ^ p)) (right.lists ∙ same_states f p os ok.1 ok.2)), ok.1, ok.2);

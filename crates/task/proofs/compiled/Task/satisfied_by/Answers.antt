@@ -9,15 +9,15 @@ use Rattle.task.specs.Compiled.{task_formula, letters_of}
 use Rattle.task.proofs.Compiling.{states_few, after_more, letters_more, whole_answer, first_not_below, not_below}
 use Rattle.task.proofs.compiled.Task.satisfied_by.Goals as goal
 
-pub returns-in-default : goal.returns-in-default
-returns-in-default c =
+pub returns-in_default : goal.returns-in_default
+returns-in_default c =
     let me = c.args.self.now in
     let f = task_formula me in
     let n = letters_of me in
     let P : List ℕ → Type 0 = λ xs. LettersBelow n xs × (false ≡ accepts_by_number f n xs) × Decides false (Satisfies xs f) in
     record {
       theorems = (accepts_satisfying, accepts_by_number_right);
-      answer = subst P (sym (nil_from_length c.args.letters.now c.in-default.ensures.cases)) (tt, refl, accepts_by_number_right f n (states_few me) [] tt);
+      answer = subst P (sym (nil_from_length c.args.letters.now c.in_default.ensures.cases)) (tt, refl, accepts_by_number_right f n (states_few me) [] tt);
     }
 
 pub loop-letter-preserved : goal.loop-letter-preserved
@@ -26,27 +26,27 @@ loop-letter-preserved c =
     let xs = c.in-Some.rest.now in
     let i = c.loop-letter.letter-index in
     let inv = c.loop-letter.invariant in
-    let p = c.in-ok-state-2.state in
-    let answer = c.in-ok-state-2.ensures.answer in (
-      after_more (task_formula me) (letters_of me) c.in-ok-state.state xs i c.loop-letter.state p c.loop-letter-test.true inv.0 answer,
-      c.in-ok-state-2.ensures.within,
-      letters_more (task_formula me) (letters_of me) c.in-ok-state.state xs i c.loop-letter.state p c.loop-letter-test.true inv.0 answer inv.2,
+    let p = c.in_ok-state-2.state in
+    let answer = c.in_ok-state-2.ensures.answer in (
+      after_more (task_formula me) (letters_of me) c.in_ok-state.state xs i c.loop-letter.state p c.loop-letter-test.true inv.0 answer,
+      c.in_ok-state-2.ensures.within,
+      letters_more (task_formula me) (letters_of me) c.in_ok-state.state xs i c.loop-letter.state p c.loop-letter-test.true inv.0 answer inv.2,
     )
 
-pub returns-in-err-state : goal.returns-in-err-state
-returns-in-err-state c =
-    rw c.from-residual.ensures (record {
+pub returns-in_err-state : goal.returns-in_err-state
+returns-in_err-state c =
+    rw c.from_residual.ensures (record {
       theorems = (accepts_satisfying, accepts_by_number_right);
       answer = first_not_below (letters_of c.args.self.now) c.args.letters.now c.in-Some.rest.now c.in-Some.letter.now
-          c.in-Some.ensures.cases.0 c.in-err-state.ensures.within;
+          c.in-Some.ensures.cases.0 c.in_err-state.ensures.within;
     })
 
-pub returns-in-err-state-2 : goal.returns-in-err-state-2
-returns-in-err-state-2 c =
-    rw c.from-residual-in-err-state-2.ensures (record {
+pub returns-in_err-state-2 : goal.returns-in_err-state-2
+returns-in_err-state-2 c =
+    rw c.from_residual-in_err-state-2.ensures (record {
       theorems = (accepts_satisfying, accepts_by_number_right);
       answer = not_below (letters_of c.args.self.now) c.args.letters.now c.in-Some.rest.now c.in-Some.letter.now c.loop-letter.letter-index
-          c.in-Some.ensures.cases.0 c.loop-letter-test.true (c.in-err-state-2.ensures.within c.loop-letter.invariant.1);
+          c.in-Some.ensures.cases.0 c.loop-letter-test.true (c.in_err-state-2.ensures.within c.loop-letter.invariant.1);
     })
 
 pub returns : goal.returns
@@ -55,7 +55,7 @@ returns c =
     let inv = c.loop-letter.invariant in
     record {
       theorems = (accepts_satisfying, accepts_by_number_right);
-      answer = whole_answer (task_formula me) (letters_of me) c.args.letters.now c.in-Some.rest.now c.in-Some.letter.now c.in-ok-state.state
+      answer = whole_answer (task_formula me) (letters_of me) c.args.letters.now c.in-Some.rest.now c.in-Some.letter.now c.in_ok-state.state
           c.loop-letter.letter-index c.loop-letter.state c.accepts.result (states_few me) c.in-Some.ensures.cases.0
-          c.in-ok-state.ensures.answer inv.0 c.loop-letter-test.false inv.1 inv.2 c.accepts.ensures;
+          c.in_ok-state.ensures.answer inv.0 c.loop-letter-test.false inv.1 inv.2 c.accepts.ensures;
     }

@@ -19,16 +19,16 @@ loop-i-preserved-in-Weak c =
     end_more c.args.self.now c.loop-i.i c.loop-i-test.true c.loop-i.auto.i (true ∷ []) (ap end_bit c.in-Weak.is) (2 * c.loop-i.end + 1)
     (omega (arith, c.loop-i.invariant.1))
 
-pub loop-i-preserved-then-is-temporal : goal.loop-i-preserved-then-is-temporal
-loop-i-preserved-then-is-temporal c =
+pub loop-i-preserved-then-is_temporal : goal.loop-i-preserved-then-is_temporal
+loop-i-preserved-then-is_temporal c =
     end_more c.args.self.now c.loop-i.i c.loop-i-test.true c.loop-i.auto.i (false ∷ [])
-    (end_temporal (get_or c.args.self.now.operators (c.loop-i.i - 1) True) c.in-default.not-Weak (sym c.is-temporal.ensures ∙ c.if-is-temporal.true))
+    (end_temporal (get_or c.args.self.now.operators (c.loop-i.i - 1) True) c.in_default.not-Weak (sym c.is_temporal.ensures ∙ c.if-is_temporal.true))
     (2 * c.loop-i.end) (omega (arith, c.loop-i.invariant.1))
 
 pub loop-i-preserved : goal.loop-i-preserved
 loop-i-preserved c =
     end_more c.args.self.now c.loop-i.i c.loop-i-test.true c.loop-i.auto.i []
-    (end_none (get_or c.args.self.now.operators (c.loop-i.i - 1) True) (sym c.is-temporal.ensures ∙ c.if-is-temporal.false))
+    (end_none (get_or c.args.self.now.operators (c.loop-i.i - 1) True) (sym c.is_temporal.ensures ∙ c.if-is_temporal.false))
     c.loop-i.end c.loop-i.invariant.1
 
 pub returns : goal.returns

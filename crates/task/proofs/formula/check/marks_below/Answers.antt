@@ -5,7 +5,7 @@ use Rattle.ltlf.specs.declared.operator.Operator.TheVariants.{True}
 use Rattle.ltlf.specs.Prefix.{marks_below, mark_below}
 use Rattle.task.proofs.Counting.{below_more, below_less, no_mark}
 use Rattle.task.proofs.formula.check.marks_below.Goals as goal
-use Rattle.task.proofs.formula.check.marks_below.Goals.{in-Mark+else-mark-marks, in-default}
+use Rattle.task.proofs.formula.check.marks_below.Goals.{in-Mark+else-mark-marks, in_default}
 
 pub returns-then-mark-marks : goal.returns-then-mark-marks
 returns-then-mark-marks c =
@@ -24,8 +24,8 @@ loop-operator-preserved c =
       | in-Mark+else-mark-marks w ↦
           sym (below_more os i c.loop-operator-test.true p (ap (mark_below p) w.in-Mark.is ∙ lt-ltb w.in-Mark.mark p w.if-mark-marks.false))
           ∙ c.loop-operator.invariant
-      | in-default w ↦
-          sym (below_more os i c.loop-operator-test.true p (no_mark p (get_or os i True) w.in-default.not-Mark)) ∙ c.loop-operator.invariant
+      | in_default w ↦
+          sym (below_more os i c.loop-operator-test.true p (no_mark p (get_or os i True) w.in_default.not-Mark)) ∙ c.loop-operator.invariant
     ]
 
 pub returns : goal.returns

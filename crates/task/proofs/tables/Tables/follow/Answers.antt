@@ -7,8 +7,8 @@ use Rattle.task.specs.Tables.{Tabled}
 use Rattle.task.proofs.Tabulating.{row_more, before_more}
 use Rattle.task.proofs.tables.Tables.follow.Goals as goal
 
-pub returns-in-err-self : goal.returns-in-err-self
-returns-in-err-self c =
+pub returns-in_err-self : goal.returns-in_err-self
+returns-in_err-self c =
     let me = c.args.self.now in
     let a = c.loop-a.a in
     let ss = listed me.numbered in
@@ -17,8 +17,8 @@ returns-in-err-self c =
       row = λ f few acts.
           let letter = acts a c.index-letters-a.result c.loop-a-test.true in
           let big = too_many (step f (get_or me.numbered.states c.args.q 0)) a c.args.count c.next.result ss (listed c.loop-a.self.numbered) c.loop-a-test.true
-          (c.loop-a.invariant.0 f few acts).lists (c.next.ensures f a few letter) c.in-err-self.ensures.0 in
-          rw c.from-residual.ensures
+          (c.loop-a.invariant.0 f few acts).lists (c.next.ensures f a few letter) c.in_err-self.ensures.0 in
+          rw c.from_residual.ensures
           (subst (λ s. 64 < length (meets (step f s) c.args.count ss)) (sym e) big);
       starts = c.loop-a.invariant.1;
       before = c.loop-a.invariant.2;
@@ -31,12 +31,12 @@ loop-a-preserved c =
     let room : c.args.q * 64 + a < length c.loop-a.self.next = search rules in (
       λ f few acts.
           let letter = acts a c.index-letters-a.result c.loop-a-test.true in
-          row_more (step f (get_or me.numbered.states c.args.q 0)) a c.next.result c.in-ok-self.field-0
+          row_more (step f (get_or me.numbered.states c.args.q 0)) a c.next.result c.in_ok-self.field-0
           (listed me.numbered) (listed c.loop-a.self.numbered) (listed c.meet.new.self) c.loop-a.self.next
-          (c.next.ensures f a few letter) c.in-ok-self.ensures.1 c.in-ok-self.ensures.2
+          (c.next.ensures f a few letter) c.in_ok-self.ensures.1 c.in_ok-self.ensures.2
           (c.args.q * 64) room (c.loop-a.invariant.0 f few acts),
       c.loop-a.invariant.1,
-      before_more (c.args.q * 64) a c.in-ok-self.field-0 c.loop-a.self.next me.next c.loop-a.invariant.2,
+      before_more (c.args.q * 64) a c.in_ok-self.field-0 c.loop-a.self.next me.next c.loop-a.invariant.2,
     )
 
 pub returns : goal.returns

@@ -54,7 +54,7 @@ returns-in-Not c =
           one_operand fs gs zs a me.number last.number (held me) (told me) (held last) (told last)
           me.number me.number (x ∷ rest) ((18446744073709551615 - x) ∷ rest) (told me) refl (cc) (cc) (cc) (cc)
           neg (ap (λ o. made o fs) (sym c.in-Not.is) ∙ e)
-          (λ f hs. ev_not hs zs a rest (told me) f x me.number c.pop-f.type-inv);
+          (λ f hs. ev_not hs zs a rest (told me) f x me.number c.pop-f.type_inv);
     }
 
 pub returns-in-And : goal.returns-in-And
@@ -175,7 +175,7 @@ returns-in-Always c =
     let v = c.forecast-in-Always.result in
     let y = bit_or (18446744073709551615 - x) v in
     let one_less : me.number ≡ suc m = omega arith in
-    let y-fits : y < 2 ^ 64 = or_lt 64 (18446744073709551615 - x) v (omega arith) c.forecast-in-Always.type-inv in
+    let y-fits : y < 2 ^ 64 = or_lt 64 (18446744073709551615 - x) v (omega arith) c.forecast-in-Always.type_inv in
     record {
       top = search rules;
       number = search rules;
@@ -183,6 +183,6 @@ returns-in-Always c =
           one_operand fs gs zs a me.number m (held me) (told me) (held last) (told last)
           (suc m) m (x ∷ rest) ((18446744073709551615 - y) ∷ rest) (y ∷ told me) one_less refl (cc) (cc) (cc)
           always (ap (λ o. made o fs) (sym c.in-Always.is) ∙ e)
-          (λ f hs. ev_always hs zs a rest (told me) f x m y c.pop-f-in-Always.type-inv y-fits
+          (λ f hs. ev_always hs zs a rest (told me) f x m y c.pop-f-in-Always.type_inv y-fits
           (λ w h. bit_or_is w (18446744073709551615 - x) v ∙ ap (λ b. bit w (18446744073709551615 - x) || b) (c.forecast-in-Always.ensures m w (omega arith) h)));
     }

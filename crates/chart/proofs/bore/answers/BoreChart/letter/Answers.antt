@@ -16,8 +16,8 @@ returns-then-station-self c =
     let me = c.args.self.now in
     sym (get_or_past (bore_meaning me).letters c.args.station 0 (omega (arith, length-map-range_with_len (zone_letter me.zones.now) 0 me.stations)))
 
-pub overflow-shl-letter : goal.overflow-shl-letter
-overflow-shl-letter c =
+pub overflow_shl-letter : goal.overflow_shl-letter
+overflow_shl-letter c =
     let me = c.args.self.now in
     let i = c.loop-zone.zone-index in
     omega (arith, zone_mark me.stations (get_or me.zones.now i no_zone) (every_at (zone_sound me.stations) me.zones.now i no_zone c.loop-zone-test.true me.sound))
