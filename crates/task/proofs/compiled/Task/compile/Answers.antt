@@ -48,8 +48,8 @@ distances-distances-requires c =
       inside = tables_inside (formula_of f) n t (subst (λ k. Tabulates (formula_of f) k t) (sym is) right);
     }
 
-pub invariant-of-result : goal.invariant-of-result
-invariant-of-result c =
+pub invariant_of-result : goal.invariant_of-result
+invariant_of-result c =
     let f = c.in_ok-formula.formula in
     let t = c.in-Some.tables in
     let n = c.letter_count-letters.result in
@@ -57,16 +57,16 @@ invariant-of-result c =
     let right = at_letters f n c.letters.result (λ g k. Tabulates g k t) is c.letters.ensures c.in-Some.ensures in
     let ds = c.distances-distances.result in
     let tests = c.distances-distances.ensures (formula_of f) (subst (λ k. Tabulates (formula_of f) k t) (sym is) right) c.ending-ending.ensures.value in
-    let T : ℕ → Type 0 = λ k. (q j : ℕ) → q < t.numbered.count → within (formula_of f) k j q ≡ (ltb (get_or ds q 0) 4294967295 && leb (get_or ds q 0) j) in (
-      right.lists,
-      (
-        right.starts,
-        (
-          λ q a h. right.steps q a h.0 h.1,
-          (c.ending-ending.ensures.value, (c.ending-ending.ensures.small, (search rules, (subst T is tests, tt)))),
-        ),
-      ),
-    )
+    let T : ℕ → Type 0 = λ k. (q j : ℕ) → q < t.numbered.count → within (formula_of f) k j q ≡ (ltb (get_or ds q 0) 4294967295 && leb (get_or ds q 0) j) in
+    record {
+      lists = right.lists;
+      starts = right.starts;
+      steps = λ q a h. right.steps q a h.0 h.1;
+      ends = c.ending-ending.ensures.value;
+      low = c.ending-ending.ensures.small;
+      many = search rules;
+      tests = subst T is tests;
+    }
 
 pub returns : goal.returns
 returns c =

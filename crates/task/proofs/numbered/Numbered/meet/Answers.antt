@@ -10,13 +10,18 @@ returns-then-new-eq64 c =
     let new = not_met c.args.state me.count me.states c.number-q.result fits c.number-q.ensures c.if-q-self.false in
     (omega (arith, meet_long c.args.state me.count me.states fits new, c.if-new-eq64.true), refl)
 
-pub invariant-of-self : goal.invariant-of-self
-invariant-of-self c =
+pub invariant_of-self : goal.invariant_of-self
+invariant_of-self c =
     let me = c.args.self.now in
     let fits : me.count ≤ length me.states = search rules in
     let room : me.count < length me.states = search rules in
     let new = not_met c.args.state me.count me.states c.number-q.result fits c.number-q.ensures c.if-q-self.false in
-    (search rules, (search rules, (search rules, (apart_meet c.args.state me.count me.states room new me.apart, tt))))
+    record {
+      fits = search rules;
+      whole = search rules;
+      hinted = search rules;
+      apart = apart_meet c.args.state me.count me.states room new me.apart;
+    }
 
 pub returns : goal.returns
 returns c =
