@@ -33,7 +33,7 @@ fn zone_fits(marks: u32, stations: u32, zone: Zone) -> bool
 
 // Whether the form of a task line is a task form at all: its place is asked before its limits.
 fn is_task(made: &Result<Task, taskform::Fault>) -> bool
-    ensures { result ≡ is_task IfOk.entry.now }
+    ensures { result ≡ is_task made.now }
 {
     match made {
         Err(taskform::Fault::NotATask) => false,

@@ -23,13 +23,13 @@ returns-in-Err c =
       theorems = job_right;
     }
 
-pub invariant-of-self : goal.invariant-of-self
-invariant-of-self c =
+pub invariant_of-self : goal.invariant_of-self
+invariant_of-self c =
     let p = c.in-Some.ensures in
     let r = sym c.loop-bytes.invariant.0
     ∙ line_done (draft_of c.loop-bytes.place c.loop-bytes.self) _ _ _ c.loop-bytes.line p.0 p.1 _ c.in-Ok.ensures.taken (sym c.if-is_done.ensures) in
     let e = held_right c.args.text.now (contents_of c.take_line.new.self) c.in-Some.rest.now c.if-text-gt65536.false r in
-    search rules
+    record { leg_room = search rules; zone_room = search rules; long = search rules; few = search rules; marked = search rules; right = search rules }
 
 pub returns-then-is_done : goal.returns-then-is_done
 returns-then-is_done c =
