@@ -1,5 +1,5 @@
 -- What a look at one node, and a sweep over all of them, do.
-use Rattle.std.specs.Prelude.{◌≡◌, ℕ, ◌+◌, ◌<◌, ◌≤◌, Bool, true, false, cond, ◌&&◌, List, ◌++◌, length, drop, replicate, Some, None, sum_by, Option, nat_le}
+use Rattle.std.specs.Prelude.{◌≡◌, ℕ, ◌<◌, ◌≤◌, Bool, true, false, cond, ◌&&◌, List, ◌++◌, length, drop, replicate, Some, None, sum_by, Option, nat_le}
 use Rattle.best.specs.Kinds.{Order}
 use Rattle.best.specs.Paths.{Meaning, Arc, Path, back, at}
 

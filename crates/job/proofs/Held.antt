@@ -1,5 +1,5 @@
 -- What was read may be held.
-use Rattle.std.proofs.Common.{◌≡◌, ℕ, ◌<◌, ◌≤◌, true, leb, List, ◌++◌, length, Ok, Err, ap, arith, length-append}
+use Rattle.std.proofs.Common.{◌≡◌, ℕ, ◌<◌, ◌≤◌, true, leb, List, length, Ok, Err, ap, arith, length-append}
 use Rattle.std.proofs.lemmas.Bool.{and_from, le-leb, lt-leb, cond-false}
 use Rattle.job.specs.declared.fault.Fault.TheVariants.{TooLong}
 use Rattle.job.specs.Contents.{Contents, within}

@@ -1,5 +1,5 @@
 -- A task line, by what the compiler of its form answered.
-use Rattle.std.proofs.Common.{◌≡◌, ℕ, Bool, true, false, cond, List, Some, None, Ok, Err, Option, Result, sym, refl, ap, ◌∙◌, subst, arith}
+use Rattle.std.proofs.Common.{◌≡◌, ℕ, true, false, List, Some, None, Ok, Err, Option, Result, sym, refl, ap, ◌∙◌, arith}
 use Rattle.std.proofs.lemmas.Bool.{cond-true, cond-false}
 use Rattle.chart.specs.Limits.{among}
 use Rattle.form.specs.Forms.{Tree, Good, bytes_of}
@@ -13,7 +13,7 @@ use Rattle.task.specs.Compiled.{operators_of}
 use Rattle.task.specs.Faults.{task_fault}
 use Rattle.task.specs.declared.compiled.Task.{Task}
 use Rattle.task.specs.declared.fault.Fault.{Fault as Limits}
-use Rattle.taskform.specs.Compiling.{Compiles, Compiled}
+use Rattle.taskform.specs.Compiling.{Compiled}
 use Rattle.taskform.specs.Faults.{as_limit, operators_fault, tree_fault, compile_fault}
 use Rattle.taskform.specs.Spelling.{operators_in}
 use Rattle.taskform.specs.declared.fault.Fault.{Fault as TaskFault}
@@ -22,7 +22,7 @@ use Rattle.job.specs.declared.fault.Fault.TheVariants as fault
 use Rattle.job.specs.declared.place.Place.TheVariants as at
 use Rattle.job.specs.Compiling.{is_task}
 use Rattle.job.specs.Rows.{task}
-use Rattle.job.specs.Taking.{Draft, rank, with_task, ask, goes, limited, tasked, taken}
+use Rattle.job.specs.Taking.{Draft, rank, with_task, goes, limited, tasked, taken}
 
 -- a task line whose form is f, by the fault of its operators
 record Line (d : Draft) (t : List ℕ) (f : Tree) : Type 0 where

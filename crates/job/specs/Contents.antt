@@ -1,5 +1,5 @@
 -- What a job says: its marks, chart, task, start and lookahead, and which jobs there are.
-use Rattle.std.specs.Prelude.{ℕ, suc, ◌^◌, Bool, true, false, ◌&&◌, ltb, List, [], ◌∷◌, length, Some, None, Option, nat_le, nat_lt}
+use Rattle.std.specs.Prelude.{ℕ, suc, ◌^◌, Bool, true, false, ◌&&◌, ltb, List, [], length, Some, None, Option, nat_le, nat_lt}
 use Rattle.chart.specs.Limits.{among, every, legs_sound}
 use Rattle.chart.specs.declared.leg.Leg.{Leg}
 use Rattle.chart.specs.declared.leg.Zone.{Zone}

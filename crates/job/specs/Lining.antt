@@ -2,7 +2,6 @@
 use Rattle.std.specs.Prelude.{◌≡◌, ℕ, List, Ok, Err, Result}
 use Rattle.std.specs.Borrow.{Bor}
 use Rattle.form.specs.Forms.{Tree, Good, bytes_of}
-use Rattle.form.specs.declared.view.Part.{Part}
 use Rattle.form.specs.declared.view.Part.TheVariants as part
 use Rattle.form.specs.declared.view.Parts.{Parts as Shown}
 use Rattle.form.specs.declared.view.Parts.TheVariants as shown

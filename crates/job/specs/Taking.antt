@@ -1,5 +1,5 @@
 -- The questions of a line after its form's, and what the line makes of the job.
-use Rattle.std.specs.Prelude.{ℕ, suc, ◌-◌, ◌^◌, Bool, cond, ◌&&◌, List, [], ◌∷◌, ◌++◌, length, replicate, Some, None, Ok, Err, Option, Result, ◌==◌, nat_le, nat_lt, slice_set}
+use Rattle.std.specs.Prelude.{ℕ, suc, ◌-◌, ◌^◌, Bool, cond, ◌&&◌, List, [], ◌∷◌, ◌++◌, replicate, Some, None, Ok, Err, Option, Result, ◌==◌, nat_le, nat_lt, slice_set}
 use Rattle.chart.specs.Limits.{among, leg_sound}
 use Rattle.chart.specs.declared.leg.Leg.{Leg}
 use Rattle.chart.specs.declared.leg.Zone.{Zone}

@@ -1,5 +1,5 @@
 -- A job's text, read line by line.
-use Rattle.std.specs.Prelude.{◌≡◌, ℕ, suc, cond, List, [], ◌∷◌, ◌++◌, length, Ok, Err, Result, ◌==◌, ◌≢◌, nat_le}
+use Rattle.std.specs.Prelude.{ℕ, suc, cond, List, [], ◌∷◌, ◌++◌, length, Ok, Err, Result, ◌==◌, ◌≢◌, nat_le}
 use Rattle.form.specs.Reading.{is_empty}
 use Rattle.form.specs.Viewing.{plain}
 use Rattle.form.specs.declared.fault.Fault.TheVariants.{Byte, Shape}

@@ -1,7 +1,7 @@
 -- The place of a state in a list of states, and what meeting a state does to the list.
 use Rattle.std.proofs.Common.{◌≡◌, ℕ, zero, suc, ◌+◌, ◌<◌, ◌≤◌, Bool, true, false, cond, eqb, ltb, List, [], ◌∷◌, ◌++◌, length, get_or, take, set, sym, refl, ap, ◌∙◌, inl, inr, append_assoc, arith, length-append, length-take, get_or-take}
 use Rattle.std.proofs.lemmas.List.{take_more_set, append-nil, get_or_append_left, get_or_push}
-use Rattle.std.proofs.lemmas.Bool.{eq-eqb, ne_eqb, eqb-true, lt-ltb, le-ltb, ltb-true, ltb-false, cases_lt, cond-true, cond-false, cond_both}
+use Rattle.std.proofs.lemmas.Bool.{eq-eqb, ne_eqb, eqb-true, le-ltb, ltb-true, ltb-false, cases_lt, cond-true, cond-false, cond_both}
 use Rattle.ltlf.specs.Numbering.{place, meet}
 
 -- the place is the first index that holds the state, or the length

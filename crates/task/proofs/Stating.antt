@@ -1,9 +1,9 @@
 -- Best values over the net of the states are distances: paths of the net are lists of letters.
-use Rattle.std.proofs.Common.{◌≡◌, ℕ, ◌+◌, ◌*◌, ◌<◌, ◌≤◌, min, true, cond, ◌&&◌, ltb, leb, ◌⊎◌, List, [], ◌∷◌, length, get_or, Some, None, Option, sym, refl, ap, ◌∙◌, inl, inr, ⊎_elim, arith}
+use Rattle.std.proofs.Common.{◌≡◌, ℕ, ◌+◌, ◌*◌, ◌<◌, ◌≤◌, min, true, cond, ◌&&◌, ltb, leb, List, [], ◌∷◌, length, get_or, Some, None, Option, sym, refl, ap, ◌∙◌, inl, inr, ⊎_elim, arith}
 use Rattle.std.proofs.lemmas.List.{get_or_default}
 use Rattle.std.proofs.lemmas.Bool.{cases_Bool, cond-true, and_from, and_parts, lt-ltb, ltb-true, le-leb, leb-true}
 use Rattle.best.specs.Kinds.{counts, Lawful}
-use Rattle.best.specs.Paths.{Path, back, at, Reached, IsBest}
+use Rattle.best.specs.Paths.{Path, back, Reached, IsBest}
 use Rattle.best.proofs.Shortening.{short_paths}
 use Rattle.ltlf.specs.Ltlf.{Ltlf}
 use Rattle.ltlf.specs.Numbering.{next_number, accepts_number, number_after}

@@ -1,5 +1,5 @@
 -- The questions of a task form, by what its reader found.
-use Rattle.std.proofs.Common.{◌≡◌, ℕ, Bool, true, false, cond, List, [], ◌∷◌, ◌++◌, is_some, Some, None, Ok, Err, Option, Result, sym, refl, ap, ◌∙◌, subst, arith}
+use Rattle.std.proofs.Common.{◌≡◌, ℕ, Bool, true, false, cond, List, [], ◌∷◌, is_some, Some, None, Ok, Err, Option, Result, sym, refl, ap, ◌∙◌, arith}
 use Rattle.std.proofs.lemmas.Bool.{cond-true}
 use Rattle.form.specs.Checking.{checked}
 use Rattle.form.specs.Forms.{Tree, Good, bytes_of}
@@ -12,7 +12,6 @@ use Rattle.ltlf.specs.Prefix.{formula}
 use Rattle.ltlf.specs.declared.operator.Operator.{Operator}
 use Rattle.ltlf.proofs.Reading.{reads_grammar}
 use Rattle.task.specs.Faults.{task_fault}
-use Rattle.taskform.specs.declared.fault.Fault.{Fault}
 use Rattle.taskform.specs.declared.fault.Fault.TheVariants.{Form, NotATask}
 use Rattle.taskform.specs.Faults.{as_limit, operators_fault, tree_fault, compile_fault}
 use Rattle.taskform.specs.Gathering.{Spelt}

@@ -1,9 +1,9 @@
 -- What the bytes after a head say of the form's operators.
-use Rattle.std.proofs.Common.{◌≡◌, ℕ, suc, ◌+◌, ◌-◌, ◌*◌, ◌%◌, ◌<◌, ◌≤◌, Bool, true, false, cond, ◌&&◌, ltb, leb, List, [], ◌∷◌, ◌++◌, length, take, drop, IfOk, Some, None, Ok, Err, decimal, Option, Result, sym, refl, ap, ◌∙◌, subst, inl, inr, append_assoc, arith, length-drop, Bor, MatchResult}
+use Rattle.std.proofs.Common.{◌≡◌, ℕ, ◌+◌, ◌-◌, ◌*◌, ◌%◌, ◌<◌, ◌≤◌, ◌&&◌, ltb, leb, List, [], ◌∷◌, ◌++◌, length, take, drop, IfOk, Some, None, Ok, Err, decimal, Option, Result, sym, refl, ap, ◌∙◌, subst, inl, inr, append_assoc, arith, length-drop, Bor, MatchResult}
 use Rattle.std.specs.List.{prefix_len}
 use Rattle.std.proofs.lemmas.Fmt.{decimal_by_steps}
 use Rattle.std.proofs.lemmas.Bool.{and_parts, leb-true, ltb-true, cases_Bool, cond-true, cond-false}
-use Rattle.form.specs.Forms.{Parts, none, number, inner, written, letter, Word, Sound}
+use Rattle.form.specs.Forms.{Parts, none, number, inner, written, letter, Sound}
 use Rattle.form.specs.Reading.{digit}
 use Rattle.form.specs.Viewing.{counted, uncounted}
 use Rattle.form.proofs.Walking.{letter_stops, digit_stops, word_front, word_rest, number_value, number_rest}

@@ -1,7 +1,7 @@
 -- The bytes of a form, from its operators.
 use Rattle.std.proofs.Common.{◌≡◌, ℕ, List, [], ◌∷◌, ◌++◌, sym, refl, ap, ◌∙◌, subst, append_assoc, arith}
 use Rattle.std.proofs.lemmas.List.{append-nil}
-use Rattle.form.specs.Forms.{Parts, none, number, inner, Tree, bytes_of, written}
+use Rattle.form.specs.Forms.{none, inner, Tree, bytes_of, written}
 use Rattle.ltlf.specs.Operators.{operands}
 use Rattle.ltlf.specs.declared.operator.Operator.{Operator}
 use Rattle.ltlf.specs.declared.operator.Operator.TheVariants.{True, Mark, Not, And, Or, Next, Weak, Until, Eventually, Always}

@@ -1,5 +1,5 @@
 -- Task forms and formulas in prefix order are the same, each with its own spelling.
-use Rattle.std.specs.Prelude.{◌≡◌, ℕ, List, Some}
+use Rattle.std.specs.Prelude.{◌≡◌, List, Some}
 use Rattle.form.specs.Forms.{Tree}
 use Rattle.ltlf.specs.declared.operator.Operator.{Operator}
 use Rattle.ltlf.specs.Grammar.{Writes}

@@ -1,4 +1,4 @@
-use Rattle.std.proofs.Common.{◌≡◌, [], Some, None, sym, refl, ap, ◌∙◌}
+use Rattle.std.proofs.Common.{[], Some, sym, ap, ◌∙◌}
 use Rattle.std.proofs.lemmas.Result.{err_from_is_err_and}
 use Rattle.taskform.specs.Faults.{as_limit}
 use Rattle.taskform.proofs.Compiled.{unformed, formed, inside_spelt, no_task, some_task, unopened, one_formula}

@@ -1,7 +1,7 @@
-use Rattle.std.proofs.Common.{◌≡◌, List, [], ◌∷◌, ◌++◌, length, Some, sym, refl, ap, ◌∙◌, arith}
+use Rattle.std.proofs.Common.{[], ◌∷◌, ◌++◌, length, Some, sym, refl, ap, ◌∙◌, arith}
 use Rattle.std.proofs.lemmas.Result.{MatchResult-weaker, err_from_is_err_and}
 use Rattle.ltlf.specs.declared.operator.Operator.TheVariants.{True}
-use Rattle.taskform.proofs.Descending.{Opens, opens, no_sort, truth_yes, truth_no, one_bare, one_none, one_yes, one_no, two_bare, two_none, two_single, two_second, two_yes, two_no, closing, closing_shorter, word_shorter, headed, sorted, held_as, held_both}
+use Rattle.taskform.proofs.Descending.{opens, no_sort, truth_yes, truth_no, one_bare, one_none, one_yes, one_no, two_bare, two_none, two_single, two_second, two_yes, two_no, closing, closing_shorter, word_shorter, headed, sorted, held_as, held_both}
 use Rattle.taskform.proofs.descent.+descend.Goals as goal
 
 pub returns-in_default : goal.returns-in_default

@@ -1,4 +1,4 @@
-use Rattle.std.proofs.Common.{◌≡◌, ℕ, ◌≤◌, List, [], ◌∷◌, length, Some, sym, ap, ◌∙◌, subst, arith}
+use Rattle.std.proofs.Common.{ℕ, ◌≤◌, [], ◌∷◌, length, Some, sym, ap, ◌∙◌, subst, arith}
 use Rattle.ltlf.specs.declared.operator.Operator.TheVariants.{Mark}
 use Rattle.taskform.proofs.Descending.{counted_small, mark_yes, mark_no, closing, closing_shorter, uncounted_shorter}
 use Rattle.taskform.proofs.descent.mark.Goals as goal

@@ -1,4 +1,4 @@
-use Rattle.std.proofs.Common.{◌≡◌, [], ◌∷◌, sym, ap, ◌∙◌}
+use Rattle.std.proofs.Common.{[], ap}
 use Rattle.form.specs.Forms.{bytes_of}
 use Rattle.form.proofs.Put.{puts_as}
 use Rattle.taskform.specs.Spelling.{task_tree}

@@ -1,6 +1,5 @@
-use Rattle.std.proofs.Common.{◌≡◌, [], Ok, Err, sym, refl, ap, ◌∙◌, arith, rules}
+use Rattle.std.proofs.Common.{[], Err, sym, refl, ap, ◌∙◌, arith, rules}
 use Rattle.job.specs.Records.{contents_of, draft_of}
-use Rattle.job.specs.Texts.{reading}
 use Rattle.job.proofs.Broken.{line_refused, line_done, line_next, line_shorter, end_read}
 use Rattle.job.proofs.Held.{held_right, too_long}
 use Rattle.job.proofs.RoundTrip.{job_right}

@@ -2,7 +2,7 @@ use Rattle.std.proofs.Common.{◌≡◌, ◌-◌, ◌≤◌, [], ◌∷◌, map,
 use Rattle.std.proofs.lemmas.List.{get_or-take}
 use Rattle.ltlf.specs.Bits.{bit, number}
 use Rattle.ltlf.specs.declared.operator.Operator.TheVariants.{True}
-use Rattle.ltlf.specs.Prefix.{meaning, temporals}
+use Rattle.ltlf.specs.Prefix.{meaning}
 use Rattle.ltlf.proofs.Counts.{temporals_formula}
 use Rattle.ltlf.proofs.Suffixes.{formula_known, formulas_known}
 use Rattle.task.specs.Written.{written, formula_of}

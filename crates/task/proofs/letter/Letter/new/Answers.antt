@@ -1,6 +1,6 @@
 use Rattle.std.proofs.Common.{◌≡◌, ℕ, ◌/◌, ◌%◌, ◌^◌, ◌<◌, ◌&&◌, eqb, ltb, map, sym, ap, ◌∙◌, arith, length-set}
 use Rattle.ltlf.specs.Bits.{bit, number}
-use Rattle.ltlf.specs.Forecasts.{temporal, earlier}
+use Rattle.ltlf.specs.Forecasts.{temporal}
 use Rattle.task.proofs.Gather.{set_more, started}
 use Rattle.task.proofs.letter.Letter.new.Goals as goal
 

@@ -2,7 +2,6 @@ use Rattle.std.proofs.Common.{◌≡◌, ℕ, ◌<◌, ◌≤◌, cond, ◌&&◌
 use Rattle.std.proofs.lemmas.List.{get_or-take, get_or_past, length-take-le}
 use Rattle.std.proofs.lemmas.Bool.{cases_lt}
 use Rattle.ltlf.specs.Bits.{bit}
-use Rattle.ltlf.specs.Forecasts.{ending}
 use Rattle.ltlf.specs.Numbering.{states, accepts_number}
 use Rattle.task.proofs.Stating.{distance_tests}
 use Rattle.task.proofs.tables.Tables.distances.Goals as goal

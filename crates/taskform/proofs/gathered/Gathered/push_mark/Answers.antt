@@ -1,4 +1,4 @@
-use Rattle.std.proofs.Common.{◌≡◌, suc, ◌+◌, ◌%◌, ap, arith}
+use Rattle.std.proofs.Common.{◌≡◌, ◌%◌, ap, arith}
 use Rattle.ltlf.specs.declared.operator.Operator.TheVariants.{Mark}
 use Rattle.taskform.proofs.gathered.Gathered.push_mark.Goals as goal
 
