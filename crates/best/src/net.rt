@@ -10,7 +10,7 @@ pub trait Net {
     // The arcs the other way round, in numbers of their own. They are for speed alone.
     ghost reverse: { Self → Meaning Self.Weight };
 
-    // These are proofs and no laws, since an impl with a lifetime gets no generated proof of a law.
+    // No arc leads out of the net, and each arc of the reverse net is one of the net the other way round.
     ghost closed: { (n : Self) → Closed (meaning n) };
 
     ghost reverses: { (n : Self) → Reverses (meaning n) (reverse n) };
