@@ -1,6 +1,6 @@
 -- Forms that a line may hold.
 use Rattle.std.proofs.Common.{◌≡◌, ℕ, suc, ◌<◌, ◌≤◌, Bool, true, false, ◌&&◌, leb, List, [], ◌∷◌, length, is_some, Some, None, Option, refl, arith}
-use Rattle.std.specs.List.{AllByRecursion as All}
+use Rattle.std.specs.List.{AllByRecursion}
 use Rattle.std.proofs.lemmas.Bool.{and_parts, leb-true, ltb-true}
 use Rattle.chart.specs.Limits.{every}
 use Rattle.form.specs.Forms.{Tree, letter, depth, Letters, Word, Sound, Good}
@@ -36,16 +36,16 @@ numbers_good h ns l e s = record { word = word h l e; sound = s; deep = omega (a
 abbrev Wordy : Tree → Type 0
 Wordy f = Word f.head × Sound f.parts
 
-over_wordy : (h : List ℕ) (fs : List Tree) → Word h → All Wordy fs → All Wordy (over h fs)
+over_wordy : (h : List ℕ) (fs : List Tree) → Word h → AllByRecursion Wordy fs → AllByRecursion Wordy (over h fs)
 over_wordy h [] w a = tt
 over_wordy h (f ∷ fs) w a = ((w, (a.0.0, a.0.1, tt)), a.1)
 
-both_wordy : (h : List ℕ) (fs : List Tree) → Word h → All Wordy fs → All Wordy (over_two h fs)
+both_wordy : (h : List ℕ) (fs : List Tree) → Word h → AllByRecursion Wordy fs → AllByRecursion Wordy (over_two h fs)
 both_wordy h [] w a = tt
 both_wordy h (f ∷ []) w a = tt
 both_wordy h (f ∷ (g ∷ fs)) w a = ((w, (a.0.0, a.0.1, (a.1.0.0, a.1.0.1, tt))), a.1.1)
 
-topped_wordy : (p : ℕ) (o : Operator) (fs : List Tree) → p ≤ 6 → mark_below p o ≡ true → All Wordy fs → All Wordy (topped o fs)
+topped_wordy : (p : ℕ) (o : Operator) (fs : List Tree) → p ≤ 6 → mark_below p o ≡ true → AllByRecursion Wordy fs → AllByRecursion Wordy (topped o fs)
 topped_wordy p True fs l e a = ((word (word_of True) (omega arith) refl, tt), a)
 topped_wordy p (Mark m) fs l e a = ((word (word_of (Mark m)) (omega arith) refl, (omega (arith, ltb-true m p e), tt)), a)
 topped_wordy p Not fs l e a = over_wordy (word_of Not) fs (word (word_of Not) (omega arith) refl) a
@@ -57,7 +57,7 @@ topped_wordy p Until fs l e a = both_wordy (word_of Until) fs (word (word_of Unt
 topped_wordy p Eventually fs l e a = over_wordy (word_of Eventually) fs (word (word_of Eventually) (omega arith) refl) a
 topped_wordy p Always fs l e a = over_wordy (word_of Always) fs (word (word_of Always) (omega arith) refl) a
 
-forms_wordy : (p : ℕ) (os : List Operator) → p ≤ 6 → marks_below p os ≡ true → All Wordy (forms os)
+forms_wordy : (p : ℕ) (os : List Operator) → p ≤ 6 → marks_below p os ≡ true → AllByRecursion Wordy (forms os)
 forms_wordy p [] l e = tt
 forms_wordy p (o ∷ os) l e =
     let q = and_parts (mark_below p o) (marks_below p os) e in topped_wordy p o (forms os) l q.0 (forms_wordy p os l q.1)
@@ -82,6 +82,6 @@ task_good p os e d =
       one None k y = cc
       one (Some g) k y = task_forms.reads os g ((reads_grammar os g).0 k)
 
-      first : (fs : List Tree) → All Wordy fs → Wordy (first_form fs)
+      first : (fs : List Tree) → AllByRecursion Wordy fs → Wordy (first_form fs)
       first [] a = (word (word_of True) (omega arith) refl, tt)
       first (f ∷ fs) a = a.0

@@ -1,6 +1,6 @@
 -- The law of whole runs.
 use Rattle.std.proofs.Common.{◌≡◌, ℕ, ◌+◌, ◌-◌, ◌*◌, ◌<◌, ◌≤◌, Bool, true, false, cond, eqb, ltb, leb, ◌⊎◌, List, [], ◌∷◌, ◌++◌, length, take, Decides, MatchBool, sym, refl, ap, ◌∙◌, subst, inl, inr, ⊎_elim, le_refl, mul_assoc, arith}
-use Rattle.std.specs.List.{AllByRecursion as All}
+use Rattle.std.specs.List.{AllByRecursion}
 use Rattle.std.proofs.ByRecursion.{All-map, All-take}
 use Rattle.std.proofs.lemmas.List.{append-nil, append_assoc}
 use Rattle.std.proofs.lemmas.Bool.{cases_Bool, cases_lt, both_ways, ltb-true, leb-true, eqb-true, eq-eqb}
@@ -144,14 +144,14 @@ module _ (r₀ r : Run) (ts : List ℕ) (i : Inv r₀ r ts) where
 
 -- the stations of a path have letters of the machine
 letters_along : (v : Site) → Fit (machine v) v.chart → ((t : ℕ) → t < length v.chart.letters → letter v.chart t < v.letters)
-    → (s : ℕ) (ts : List ℕ) → s < length v.chart.letters → Joined v.chart (s ∷ ts) → All (λ t. letter v.chart t < v.letters) (s ∷ ts)
+    → (s : ℕ) (ts : List ℕ) → s < length v.chart.letters → Joined v.chart (s ∷ ts) → AllByRecursion (λ t. letter v.chart t < v.letters) (s ∷ ts)
 letters_along v w ok s [] lt j = (ok s lt, tt)
 letters_along v w ok s (t ∷ ts) lt j =
     let g = j.0 in
     (ok s lt, letters_along v w ok t ts (omega (arith, (w.joins g.0 g.1).1, g.3)) j.1)
 
 -- the machine accepts the stations whose letters satisfy the formula
-accepts_spelt : (v : Site) → length (states v.formula v.letters) ≤ 64 → (ss : List ℕ) → All (λ t. letter v.chart t < v.letters) ss
+accepts_spelt : (v : Site) → length (states v.formula v.letters) ≤ 64 → (ss : List ℕ) → AllByRecursion (λ t. letter v.chart t < v.letters) ss
     → Decides (accepts_by_number v.formula v.letters (spelt v.chart ss)) (Satisfies (spelt v.chart ss) v.formula)
 accepts_spelt v few ss low =
     accepts_by_number_right v.formula v.letters few (spelt v.chart ss) (All-map (λ a. a < v.letters) (letter v.chart) ss low)
@@ -173,7 +173,7 @@ module _ (v : Site) (lim : Limits v) (first : List ℕ) (asks : (q : Question) �
   few : length (states r.site.formula r.site.letters) ≤ 64
   few = subst (λ (x : Site). length (states x.formula x.letters) ≤ 64) (sym i.site) lim.few
 
-  spelling : All (λ t. letter r.site.chart t < r.site.letters) (r.site.start ∷ ts)
+  spelling : AllByRecursion (λ t. letter r.site.chart t < r.site.letters) (r.site.start ∷ ts)
   spelling =
       letters_along r.site i.fits i.letters r.site.start ts
       (subst (λ (x : Site). x.start < length x.chart.letters) (sym i.site) (asks starts).0) i.path

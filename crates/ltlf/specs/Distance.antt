@@ -1,12 +1,12 @@
 -- How many letters a state is from acceptance.
 use Rattle.std.specs.Prelude.{◌≡◌, ℕ, zero, suc, ◌<◌, ◌≤◌, Bool, true, false, ◌||◌, List, length, Some, None, Option}
-use Rattle.std.specs.List.{AllByRecursion as All}
+use Rattle.std.specs.List.{AllByRecursion}
 use Rattle.ltlf.specs.Ltlf.{Ltlf}
 use Rattle.ltlf.specs.Numbering.{next_number, accepts_number, number_after}
 
 -- the letters xs, each below n, lead from state q to an accepting state
 abbrev pub Leads : Ltlf → ℕ → ℕ → List ℕ → Type 0
-Leads f n q xs = All (λ a. a < n) xs × (accepts_number f n (number_after f n q xs) ≡ true)
+Leads f n q xs = AllByRecursion (λ a. a < n) xs × (accepts_number f n (number_after f n q xs) ≡ true)
 
 -- the least number of letters that lead from state q to an accepting state, or none where no letters do
 abbrev pub IsDistance : Ltlf → ℕ → ℕ → Option ℕ → Type 0

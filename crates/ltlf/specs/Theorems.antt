@@ -1,6 +1,6 @@
 -- What is proved of the definitions, in the subject's words.
 use Rattle.std.specs.Prelude.{◌≡◌, ℕ, ◌<◌, ◌≤◌, List, length, Some, Decides, slice_index}
-use Rattle.std.specs.List.{AllByRecursion as All}
+use Rattle.std.specs.List.{AllByRecursion}
 use Rattle.ltlf.specs.Ltlf.{Ltlf, Satisfies}
 use Rattle.ltlf.specs.Automaton.{first, steps, accepts}
 use Rattle.ltlf.specs.Numbering.{place, states, accepts_by_number}
@@ -14,7 +14,7 @@ AcceptsSatisfying = (f : Ltlf) (xs : List ℕ) → Decides (accepts f xs) (Satis
 
 -- each letter is below n
 abbrev pub LettersBelow : ℕ → List ℕ → Type 0
-LettersBelow n xs = All (λ a. a < n) xs
+LettersBelow n xs = AllByRecursion (λ a. a < n) xs
 
 -- a list of states of the automaton over the letters below n, no state twice, and all of them if there are at most 64
 pub record ListsStates (f : Ltlf) (n : ℕ) (ss : List ℕ) : Type 0 where
