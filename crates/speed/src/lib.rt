@@ -1,4 +1,4 @@
-// The task compiler by numbers, for a benchmark that is written in Rust.
+// The task compiler by numbers, a large net, and the reader, for a benchmark; `speed_c` hands them to Rust.
 #![tactic(auto)]
 
 ghost use Rattle.std.specs.Prelude.{◌≡◌, ◌^◌, ◌≤◌, map, length, take};
@@ -11,6 +11,8 @@ mod reading;
 mod shuffled;
 
 use ltlf::operator::Operator;
+pub use reading::jackdawwire_read;
+pub use shuffled::jackdawwire_reach;
 use task::Task;
 
 // The operator of a code: 1 to 8 for not, and, or, next, weak, until, eventually and always, 16 + m for mark m, others for true.
@@ -55,8 +57,7 @@ fn told(marks: u8, operators: &[Operator]) -> u8
 }
 
 // The same from codes; 255 for more than 80 of them.
-#[unsafe(no_mangle)]
-pub extern "C" fn jackdawwire_compile(marks: u8, codes: &[u8]) -> u8
+pub fn jackdawwire_compile(marks: u8, codes: &[u8]) -> u8
     ensures { result ≡ told_for marks codes.now }
 {
     if codes.len() > 80 {

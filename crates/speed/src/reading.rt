@@ -6,8 +6,7 @@ use job::Job;
 use std::alloc::Global;
 
 // The number that a job's text is refused with, or 0; 255 for want of memory.
-#[unsafe(no_mangle)]
-pub extern "C" fn jackdawwire_read(heap: Global, text: &[u8]) -> u8
+pub fn jackdawwire_read(heap: Global, text: &[u8]) -> u8
     ensures { (result ≡ number_of (reading text.now)) ⊎ (result ≡ 255) }
 {
     let Ok(job) = Job::new(heap) else {

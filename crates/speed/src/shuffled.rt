@@ -77,8 +77,7 @@ fn count_yes(values: &[bool]) -> u32
 }
 
 // How many nodes reach node 0, found with a queue or by sweeps alone.
-#[unsafe(no_mangle)]
-pub extern "C" fn jackdawwire_reach(queued: u8) -> u32
+pub fn jackdawwire_reach(queued: u8) -> u32
     ensures { (live : List Bool) × IsBest answers shuffled (true ∷ replicate 16383 false) live × (result ≡ count_by (λ b. b) live) }
 {
     let mut values = [false; 16384];

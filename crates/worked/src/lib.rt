@@ -18,10 +18,10 @@ mod limits;
 // runs over the definitions stand here too.
 pub fn bore_operators() -> [Operator; 6]
     ensures formula { formula result ≡ Some bore }
-    ensures worked { (Worked) × (WorkedRun) }
+    ensures worked { Worked × WorkedRun }
     ensures law { RunsLawful }
-    ensures always { (SitesStay) × ((GuidesMark) × ((MovesCounted) × ((CallsAnswered) × (DecisionsPlan)))) }
-    ensures determined { (OpeningDetermined) × ((RefusalsDetermined) × (CallsDetermined)) }
+    ensures always { SitesStay × GuidesMark × MovesCounted × CallsAnswered × DecisionsPlan }
+    ensures determined { OpeningDetermined × RefusalsDetermined × CallsDetermined }
 {
     [
         Operator::Eventually,

@@ -10,6 +10,6 @@ returns c =
       formula = refl;
       worked = (worked, worked_run);
       law = runs_lawful;
-      always = (sites_stay, (guides_mark, (moves_counted, (calls_answered, decisions_plan))));
-      determined = (opening_determined, (refusals_determined, calls_determined));
+      always = (sites_stay, guides_mark, moves_counted, calls_answered, decisions_plan);
+      determined = (opening_determined, refusals_determined, calls_determined);
     }
