@@ -1,10 +1,11 @@
 -- Values that get better, one node at a time.
-use Rattle.std.proofs.Common.{◌≡◌, ℕ, ◌+◌, ◌*◌, ◌<◌, ◌≤◌, List, ◌∷◌, length, get_or, set, sym, refl, ap, ◌∙◌, subst, ⊎_elim, le_refl, arith}
-use Rattle.std.proofs.lemmas.List.{get_or-set_same, get_or-set_other, length-set, get_or_read}
+use Rattle.std.proofs.Common.{◌≡◌, ℕ, ◌<◌, ◌≤◌, List, ◌∷◌, length, get_or, set, Some, refl, ap, ◌∙◌, le_refl, arith}
+use Rattle.std.proofs.lemmas.List.{length-set, get_or_default}
 use Rattle.std.proofs.lemmas.List.Sums.{sum_by-set}
-use Rattle.std.proofs.lemmas.Bool.{cases_eq}
+use Rattle.std.proofs.lemmas.Grind.{common_steps}
 use Rattle.best.specs.Kinds.{Order}
-use Rattle.best.specs.Paths.{Meaning, Closed, Arc, at}
+use Rattle.best.specs.Arcs.{Steps}
+use Rattle.best.specs.Paths.{Meaning, Closed, Reverses, at}
 use Rattle.best.specs.Sweeps.{Via, Traced, Sound, total, Improves}
 
 module _ {V W : Type 0} (o : Order V W) (m : Meaning W) where
@@ -12,19 +13,15 @@ module _ {V W : Type 0} (o : Order V W) (m : Meaning W) where
   improves_none xs = record { long = refl; better = λ u. le_refl _; sound = λ seeds h. h }
 
   pub improves_then : {xs ys zs : List V} → Improves o m xs ys → Improves o m ys zs → Improves o m xs zs
-  improves_then p q = record {
-    long = q.long ∙ p.long;
-    better = λ u. omega (arith, p.better u, q.better u);
-    sound = λ seeds h. q.sound seeds (p.sound seeds h);
-  }
+  improves_then p q = grind arith
 
   -- what stands at each node after a write at one
   module _ (ys : List V) (i : ℕ) (b : V) (within : i < length ys) where
     written : (P : ℕ → V → Type 0) → P i b → ((u : ℕ) → P u (at o ys u)) → (u : ℕ) → P u (at o (set ys i b) u)
-    written P here there u = ⊎_elim
-        (λ (e : u ≡ i). subst (λ (z : ℕ). P z (at o (set ys i b) z)) (sym e) (subst (P i) (sym (get_or-set_same ys i b o.none within)) here))
-        (λ (ne : u ≡ i → ⊥). subst (P u) (sym (get_or-set_other ys i u b o.none ne)) (there u))
-        (cases_eq u i)
+    written P here there u = grind (arith, common_steps)
+
+  pub total_write : (ys : List V) (i : ℕ) (b : V) → i < length ys → o.rank b < o.rank (at o ys i) → total o (set ys i b) < total o ys
+  total_write ys i b within less = omega (arith, sum_by-set o.rank ys i b o.none within, less)
 
   module _ (closed : Closed m) (ys : List V) (i : ℕ) (b : V) (lt : i < m.nodes) (within : i < length ys)
       (less : o.rank b < o.rank (at o ys i)) (via : Via o m ys i b) where
@@ -44,28 +41,14 @@ module _ {V W : Type 0} (o : Order V W) (m : Meaning W) where
       sound = λ seeds fine. written ys i b within (λ u x. u < m.nodes → Traced o m seeds u x) (λ _. further seeds fine) fine;
     }
 
-    pub total_write : total o (set ys i b) < total o ys
-    total_write = omega (arith, sum_by-set o.rank ys i b o.none within, less)
-
--- a node gets a better value by an arc, and waits: with what waits, twice the total does not grow
-module _ {V W : Type 0} (o : Order V W) (m : Meaning W) (closed : Closed m) (xs ys : List V) (u v : ℕ) (w : W) (x y b : V) (k j i : ℕ)
-    (so_far : Improves o m xs ys × (2 * total o ys + j ≤ 2 * total o xs + i)) (u_lt : u < m.nodes) (all : length ys ≡ m.nodes) (v_lt : v < m.nodes)
-    (arc : Arc m u v w) (there : y ≡ get_or ys v y) (here : x ≡ get_or ys u x) (b_is : b ≡ o.extended w y) (less : o.rank b < o.rank x)
-    (waits : k ≤ j + 1) where
-  carry_less : o.rank b < o.rank (at o ys u)
-  carry_less = omega (arith, less, ap o.rank (get_or_read ys u x (omega (arith, all)) here o.none))
-
-  carry_via : Via o m ys u b
-  carry_via = (v, w, arc, b_is ∙ ap (o.extended w) (get_or_read ys v y (omega (arith, all)) there o.none))
-
-  pub carried : Improves o m xs (set ys u b) × (2 * total o (set ys u b) + k ≤ 2 * total o xs + i)
-  carried = (
-    improves_then o m so_far.0 (improves_write o m closed ys u b u_lt (omega (arith, all)) carry_less carry_via),
-    omega (arith, so_far.1, total_write o m closed ys u b u_lt (omega (arith, all)) carry_less carry_via, waits),
-  )
-
--- the same at other names for the values and for how many wait
-pub kept_so : {V W : Type 0} (o : Order V W) (m : Meaning W) (xs ys zs : List V) (j k i : ℕ) → zs ≡ ys → k ≡ j
-    → Improves o m xs ys × (2 * total o ys + j ≤ 2 * total o xs + i) → Improves o m xs zs × (2 * total o zs + k ≤ 2 * total o xs + i)
-kept_so o m xs ys zs j k i p q h =
-    (subst (Improves o m xs) (sym p) h.0, omega (arith, h.1, ap (total o) p, q))
+-- a node gets a better value by an arc that was found the other way round
+pub carried : {V W : Type 0} (o : Order V W) (m r : Meaning W) → Closed m → Reverses m r → {ys : List V} → length ys ≡ m.nodes
+    → {v k l u : ℕ} {w : W} {b : V} → v < m.nodes → Steps r v k (Some (u, w)) l → (x y : V) → b ≡ o.extended w (get_or ys v y)
+    → o.rank b < o.rank (get_or ys u x) → Improves o m ys (set ys u b) × (total o (set ys u b) < total o ys)
+carried o m r closed reverses {ys} all {v} {u = u} {w} {b} v_lt step x y b_is less =
+    let next = step.2 in
+    let source = reverses v step.0 u w v_lt next.1 next.3 in
+    let within : u < length ys = omega (arith, all, source.0) in
+    let lower : o.rank b < o.rank (at o ys u) = omega (arith, less, ap o.rank (get_or_default ys u x o.none within)) in
+    let via : Via o m ys u b = (v, w, source.1, b_is ∙ ap (o.extended w) (get_or_default ys v y o.none (omega (arith, all, v_lt)))) in
+    (improves_write o m closed ys u b source.0 within lower via, total_write o m ys u b within lower)

@@ -1,6 +1,6 @@
 pub mod Pulling
 pub mod Improving
+pub mod Relaxing
 pub mod Sweeping
 pub mod Settling
-pub mod Cutting
 pub mod Shortening

@@ -1,10 +1,10 @@
 -- Where no arc improves a value, each value is the best.
-use Rattle.std.proofs.Common.{◌≡◌, ℕ, ◌<◌, ◌≤◌, Bool, true, false, ◌⊎◌, List, [], ◌∷◌, sym, refl, ap, subst, inl, inr, ⊎_elim, le_refl, arith}
+use Rattle.std.proofs.Common.{◌≡◌, ℕ, ◌<◌, ◌≤◌, true, ◌⊎◌, List, [], ◌∷◌, refl, ap, subst, inl, inr, ⊎_elim, le_refl, arith}
 use Rattle.std.proofs.lemmas.Bool.{cases_lt}
 use Rattle.best.specs.Kinds.{Order, Lawful}
 use Rattle.best.specs.Paths.{Meaning, Closed, Path, back, at, Reached, IsBest}
 use Rattle.best.specs.Theorems.{OneBest}
-use Rattle.best.specs.Sweeps.{Settled, Traced, Improves, Outcome, Swept, total}
+use Rattle.best.specs.Sweeps.{Settled, Traced, Improves}
 
 module _ {V W : Type 0} (o : Order V W) (m : Meaning W) (lawful : Lawful o) (closed : Closed m) (seeds : List V) where
   -- a path never improves a seed
@@ -34,25 +34,11 @@ module _ {V W : Type 0} (o : Order V W) (m : Meaning W) (lawful : Lawful o) (clo
       least = λ u s path. least path u s;
     }
 
--- a sweep that changes nothing finds every node settled, and one that changes something makes the total smaller
-module _ {V W : Type 0} (o : Order V W) (m : Meaning W) {xs ys : List V} {i : ℕ} {c : Bool} where
-  pub settled_all : Swept o m xs ys i c → c ≡ false → (u : ℕ) → i ≤ u → u < m.nodes → Settled o m ys u
-  settled_all s e =
-      let out : Outcome o m xs ys i false = subst (Outcome o m xs ys i) e s.outcome in
-      subst (λ (z : List V). (u : ℕ) → i ≤ u → u < m.nodes → Settled o m z u) (sym out.0) out.1
-
-  pub falls : Swept o m xs ys i c → c ≡ true → total o ys < total o xs
-  falls s e = subst (Outcome o m xs ys i) e s.outcome
-
 -- what is best is one
 module _ {V W : Type 0} (o : Order V W) (m : Meaning W) (lawful : Lawful o) (seeds : List V) where
   no_worse : (xs ys : List V) → IsBest o m seeds xs → IsBest o m seeds ys → (u : ℕ) → u < m.nodes → o.proper (at o xs u) ≡ true
       → o.rank (at o ys u) ≤ o.rank (at o xs u)
-  no_worse xs ys p q u lt proper = ⊎_elim
-      (λ (none : at o xs u ≡ o.none). omega (arith, ap o.rank none, lawful.worst (at o ys u)))
-      (λ (r : Reached o m seeds u (at o xs u)). omega (arith, q.least u r.0 r.1 lt r.3, ap o.rank r.5))
-      (p.reached u lt proper)
+  no_worse xs ys p q u lt proper = grind arith
 
 pub one_best : {V W : Type 0} (o : Order V W) (m : Meaning W) → OneBest o m
-one_best o m lawful seeds xs ys p q u lt a b =
-    lawful.apart (at o xs u) (at o ys u) a b (omega (arith, no_worse o m lawful seeds xs ys p q u lt a, no_worse o m lawful seeds ys xs q p u lt b))
+one_best o m lawful seeds xs ys p q u lt a b = grind (arith, no_worse)

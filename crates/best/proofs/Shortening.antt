@@ -1,8 +1,7 @@
 -- A path can be made to come to no node twice; it is then no longer than there are nodes, and its value is no worse.
-use Rattle.std.proofs.Common.{◌≡◌, ℕ, zero, suc, ◌<◌, ◌≤◌, Bool, true, false, cond, ◌⊎◌, List, [], ◌∷◌, length, get_or, set, replicate, sum_by, ap, ◌∙◌, subst, inl, inr, ⊎_elim, le_refl, arith}
+use Rattle.std.proofs.Common.{◌≡◌, ℕ, zero, suc, ◌<◌, ◌≤◌, Bool, true, false, cond, ◌⊎◌, List, [], ◌∷◌, length, get_or, set, replicate, sum_by, ap, inl, le_refl, arith}
 use Rattle.std.proofs.lemmas.List.{get_or-set_other, get_or-replicate, get_or_past, length-replicate}
 use Rattle.std.proofs.lemmas.List.Sums.{sum_by-set, get_or-le-sum_by, count_by-le-length}
-use Rattle.std.proofs.lemmas.Bool.{cases_lt, cases_eq}
 use Rattle.best.specs.Kinds.{Order, Lawful}
 use Rattle.best.specs.Paths.{Meaning, Closed, Path, back}
 use Rattle.best.specs.Theorems.{ShortPaths}
@@ -21,10 +20,10 @@ Avoids v (e ∷ rest) = (e.0 ≡ v → ⊥) × Avoids v rest
 
 without : {W : Type 0} (marks : List Bool) (v : ℕ) (path : List (ℕ × W)) → Within marks path → Avoids v path → Within (set marks v false) path
 without marks v [] a b = tt
-without marks v (e ∷ rest) a b = (get_or-set_other marks v e.0 false false b.0 ∙ a.0, without marks v rest a.1 b.1)
+without marks v (e ∷ rest) a b = grind (arith, get_or-set_other marks v e.0 false false b.0, without marks v rest a.1 b.1)
 
 marked : (marks : List Bool) (v : ℕ) → get_or marks v false ≡ true → v < length marks
-marked marks v e = ⊎_elim (λ (lt : v < length marks). lt) (λ (le : length marks ≤ v). let f = get_or_past marks v false le in let z : ◌≡◌ {A = ℕ} 0 1 = cc in absurd (omega arith)) (cases_lt v (length marks))
+marked marks v e = grind (arith, get_or_past marks v false)
 
 -- one mark fewer
 fewer : (marks : List Bool) (v c : ℕ) → get_or marks v false ≡ true → sum_by one marks ≤ suc c → sum_by one (set marks v false) ≤ c
@@ -40,19 +39,10 @@ module _ {V W : Type 0} (o : Order V W) (m : Meaning W) (lawful : Lawful o) wher
   -- a path that comes to v: from the last time on
   last : (marks : List Bool) (v s : ℕ) (z : V) (path : List (ℕ × W)) (x : ℕ) → Path m x path s → Within marks path → Avoids v path ⊎ Cut marks v s z (back o path z)
   last marks v s z [] x p a = inl tt
-  last marks v s z (e ∷ rest) x p a =
-      let worse = lawful.worsens e.1 (back o rest z) in
-      ⊎_elim
-      (λ (av : Avoids v rest). ⊎_elim
-      (λ (here : e.0 ≡ v). inr (rest, subst (λ (n : ℕ). Path m n rest s) here p.1, a.1, av, worse))
-      (λ (ne : e.0 ≡ v → ⊥). inl (ne, av))
-      (cases_eq e.0 v))
-      (λ (r : Cut marks v s z (back o rest z)). inr (r.0, r.1, r.2, r.3, omega (arith, r.4, worse)))
-      (last marks v s z rest e.0 p.1 a.1)
+  last marks v s z (e ∷ rest) x p a = grind (arith, lawful.worsens e.1 (back o rest z), last marks v s z rest e.0 p.1 a.1)
 
   from_last : (marks : List Bool) (v s : ℕ) (z : V) (path : List (ℕ × W)) → Path m v path s → Within marks path → Cut marks v s z (back o path z)
-  from_last marks v s z path p a =
-      ⊎_elim (λ (av : Avoids v path). (path, p, a, av, le_refl _)) (λ (r : Cut marks v s z (back o path z)). r) (last marks v s z path v p a)
+  from_last marks v s z path p a = grind (arith, last marks v s z path v p a)
 
   abbrev Short : ℕ → ℕ → ℕ → V → V → Type 0
   Short c x s z y = (path : List (ℕ × W)) × Path m x path s × (length path ≤ c) × (o.rank (back o path z) ≤ o.rank y)
@@ -68,10 +58,7 @@ module _ {V W : Type 0} (o : Order V W) (m : Meaning W) (lawful : Lawful o) wher
 -- all nodes are marked at first
 all_within : {W : Type 0} (m : Meaning W) → Closed m → (path : List (ℕ × W)) (u s : ℕ) → u < m.nodes → Path m u path s → Within (replicate m.nodes true) path
 all_within m closed [] u s lt p = tt
-all_within m closed (e ∷ rest) u s lt p =
-    let a = p.0 in
-    let there = closed u a.0 e.0 e.1 lt a.1 a.2 in
-    (get_or-replicate m.nodes e.0 true false there, all_within m closed rest e.0 s there p.1)
+all_within m closed (e ∷ rest) u s lt p = grind (arith, get_or-replicate m.nodes e.0 true false, all_within m closed rest e.0 s)
 
 pub short_paths : {V W : Type 0} (o : Order V W) (m : Meaning W) → ShortPaths o m
 short_paths o m lawful closed path u s z lt p =

@@ -47,10 +47,6 @@ abbrev pub Outcome : {V W : Type 0} → Order V W → Meaning W → List V → L
 Outcome o m xs ys from true = total o ys < total o xs
 Outcome o m xs ys from false = (ys ≡ xs) × ((u : ℕ) → from ≤ u → u < m.nodes → Settled o m xs u)
 
-pub record Swept {V W : Type 0} (o : Order V W) (m : Meaning W) (xs ys : List V) (from : ℕ) (changed : Bool) : Type 0 where
-  pub improves : Improves o m xs ys
-  pub outcome : Outcome o m xs ys from changed
-
 -- what a queue holds afterwards: as many words as there are nodes are 0, if it has them and the values were not refused
 abbrev pub queued_after : ℕ → ℕ → List ℕ → List ℕ
 queued_after nodes places queue =

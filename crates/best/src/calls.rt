@@ -1,23 +1,12 @@
-ghost use Rattle.std.specs.Prelude.{◌≡◌, ℕ, ◌<◌, ◌≤◌, length, take, drop, replicate, MatchResult};
+ghost use Rattle.std.specs.Prelude.{◌≡◌, ◌<◌, ◌≤◌, length, take, drop, replicate, MatchResult};
 ghost use Rattle.best.specs.Paths.{IsBest};
-ghost use Rattle.best.specs.Sweeps.{Improves, Settled, queued_after};
+ghost use Rattle.best.specs.Sweeps.{queued_after};
 ghost use Rattle.best.specs.Theorems.{OneBest, ShortPaths};
 
 use crate::fault::Fault;
 use crate::kind::Kind;
 use crate::net::Net;
-use crate::spread::spread;
-use crate::sweep::sweep;
-
-// Sweeps until nothing changes.
-fn settle<N: Net, K: Kind<Weight = N::Weight>>(net: &N, values: &mut [K::Value])
-    requires { length values.old ≡ (N.Net.meaning net.now).nodes }
-    ensures improves { Improves K.Kind.order (N.Net.meaning net.now) values.old values.new }
-    ensures settled { (u : ℕ) → u < (N.Net.meaning net.now).nodes
-        → Settled K.Kind.order (N.Net.meaning net.now) values.new u }
-{
-    while sweep::<N, K>(net, values) {}
-}
+use crate::relaxation::Relaxation;
 
 // Best values in memory of just the right length, with a queue of any length, which is 0 afterwards.
 fn best_of<N: Net, K: Kind<Weight = N::Weight>>(net: &N, values: &mut [K::Value], queue: &mut [u32])
@@ -25,14 +14,16 @@ fn best_of<N: Net, K: Kind<Weight = N::Weight>>(net: &N, values: &mut [K::Value]
     ensures best { IsBest K.Kind.order (N.Net.meaning net.now) values.old values.new }
     ensures queue { queue.new ≡ replicate (length queue.old) 0 }
 {
-    spread::<N, K>(net, values, queue);
+    let mut relaxation = Relaxation::<N, K>::new(net, values);
+    relaxation.spread(queue);
     queue.fill(0);
-    settle::<N, K>(net, values);
+    relaxation.settle();
 }
 
 // Puts each node's best value in the place of its seed: the best, over all paths to a seed, of the seed's value extended
 // backwards. Memory past the nodes keeps what it held. A queue of as many words as there are nodes is used to save sweeps,
 // as far as the net gives its arcs the other way round; these words are 0 afterwards. A shorter queue is not touched.
+#[tactic(auto, using(crate::proofs::Settling::one_best, crate::proofs::Shortening::short_paths))]
 pub fn best<N: Net, K: Kind<Weight = N::Weight>>(
     net: &N,
     values: &mut [K::Value],
@@ -56,10 +47,7 @@ pub fn best<N: Net, K: Kind<Weight = N::Weight>>(
     if values.len() < nodes {
         return Err(Fault::TooShort);
     }
-    if queue.len() < nodes {
-        best_of::<N, K>(net, &mut values[0..nodes], &mut []);
-    } else {
-        best_of::<N, K>(net, &mut values[0..nodes], &mut queue[0..nodes]);
-    }
+    let words = if queue.len() < nodes { 0 } else { nodes };
+    best_of::<N, K>(net, &mut values[..nodes], &mut queue[..words]);
     Ok(())
 }

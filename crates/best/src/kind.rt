@@ -49,7 +49,9 @@ impl Kind for YesNo {
     }
 }
 
-// Letter counts: how many letters lead to a seed; the largest number stands for none.
+// Letter counts: how many letters lead to a seed; the largest number stands for none, since the caller's memory is of numbers
+// and stays so. `Seconds` differs in its width alone,
+// but a trait over both widths would ask each for what `Kind` asks: its largest number, its sums and their order.
 #[derive(Clone, Copy)]
 pub struct Letters;
 
@@ -75,7 +77,7 @@ impl Kind for Letters {
     }
 }
 
-// Seconds; the largest number stands for none.
+// Seconds; the largest number stands for none, as for letters.
 #[derive(Clone, Copy)]
 pub struct Seconds;
 

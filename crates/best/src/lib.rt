@@ -1,13 +1,13 @@
 // Best values over any net, of any kind of value.
 #![tactic(auto)]
 
+mod arcs;
 pub mod calls;
 pub mod fault;
 pub mod kind;
 pub mod net;
 mod queue;
-mod spread;
-mod sweep;
+mod relaxation;
 
 pub use calls::best;
 pub use fault::Fault;

@@ -14,6 +14,7 @@ fn show(rt: &HostRuntime, job: &Job, memory: &mut [u8]) -> io::Result<()> {
     let length = match job.write(memory) {
         Ok(length) => length,
         Err(fault) => {
+            // a fault of writing has no line, so 0 stands there
             let number = fault.number();
             return println!(rt; "(refused {number} 0)");
         }
@@ -38,10 +39,6 @@ fn main(rt: HostRuntime) -> io::Result<()> {
     rt.stdin().take(65537).read_to_end(&mut text)?;
     match job.read(&text) {
         Ok(_) => show(&rt, &job, &mut memory),
-        Err(refused) => {
-            let number = refused.fault.number();
-            let line = refused.line;
-            println!(rt; "(refused {number} {line})")
-        }
+        Err(refused) => println!(rt; "{refused}"),
     }
 }

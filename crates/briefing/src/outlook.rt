@@ -16,10 +16,7 @@ pub struct Outlook {
 pub fn look_ahead(task: &Task, letter: u32) -> Option<Outlook>
     ensures { Looks task.now letter result }
 {
-    if letter >= u32::from(task.letters()) {
-        return None;
-    }
-    let state = task.first(letter as u8)?;
+    let state = task.first(u8::try_from(letter).ok()?)?;
     Some(Outlook {
         states: task.states(),
         distance: task.distance(state),

@@ -1,4 +1,3 @@
-pub mod Reading
 pub mod Testing
 pub mod Scanning
 pub mod Pairing

@@ -1,10 +1,10 @@
 -- The questions that a table or a bore is asked before it is a chart, and the number of each refusal.
-use Rattle.std.specs.Prelude.{ℕ, Bool, true, false, ◌&&◌, List, length, Some, None, Option, nat_le}
+use Rattle.std.specs.Prelude.{ℕ, Bool, true, false, List, length, Some, None, Option, nat_le}
 use Rattle.chart.specs.declared.fault.Fault.{Fault}
 use Rattle.chart.specs.declared.fault.Fault.TheVariants.{OutOfRange, TooMany}
 use Rattle.chart.specs.declared.leg.Leg.{Leg}
 use Rattle.chart.specs.declared.leg.Zone.{Zone}
-use Rattle.chart.specs.Limits.{among, legs_sound, zones_sound}
+use Rattle.chart.specs.Limits.{among, legs_sound, spacing_sound, zones_sound}
 
 -- the number that a refusal is reported by
 abbrev pub fault_number : Fault → ℕ
@@ -26,6 +26,6 @@ table_fault letters legs =
 -- the first no of the questions that a bore is asked, or none: its number of stations, its seconds down and up, its zones
 abbrev pub bore_fault : ℕ → ℕ → ℕ → List Zone → Option Fault
 bore_fault stations down up zones =
-    ask (among 1 256 stations && (among 1 1000 down && among 1 1000 up)) OutOfRange
+    ask (spacing_sound stations down up) OutOfRange
     (ask (nat_le (length zones) 8) TooMany
     (ask (zones_sound stations zones) OutOfRange None))

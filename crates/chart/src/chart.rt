@@ -14,7 +14,7 @@ pub trait Chart {
     fn stations(&self) -> u32
         ensures { result ≡ length (meaning self.now).letters };
 
-    // A station's letter; 0 for what is no station.
+    // A station's letter; 0 for what is no station, so that no caller has a case more.
     fn letter(&self, station: u32) -> u32
         ensures { result ≡ slice_index (meaning self.now).letters station };
 

@@ -5,19 +5,16 @@ ghost use Rattle.chart.specs.Faults.{fault_number};
 #[derive(Clone, Copy, PartialEq, Eq, Debug)]
 pub enum Fault {
     // a number is not within its limits
-    OutOfRange,
+    OutOfRange = 6,
     // more legs or zones than a chart may have
-    TooMany,
+    TooMany = 9,
 }
 
 impl Fault {
-    // The number that a refusal is reported by.
+    // The number that a refusal is reported by. A `From` for `u8` would be this cast too, under a name that says less.
     pub fn number(self) -> u8
         ensures { result ≡ fault_number self }
     {
-        match self {
-            Fault::OutOfRange => 6,
-            Fault::TooMany => 9,
-        }
+        self as u8
     }
 }

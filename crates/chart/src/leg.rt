@@ -1,6 +1,6 @@
 ghost use Rattle.std.specs.Prelude.{◌≡◌};
 ghost use Rattle.chart.specs.Bores.{in_zone};
-ghost use Rattle.chart.specs.Limits.{among, leg_sound, zone_sound};
+ghost use Rattle.chart.specs.Limits.{leg_sound, zone_sound};
 
 // A leg leads from one station to another and takes so many seconds.
 #[derive(Clone, Copy, PartialEq, Eq, Debug)]
@@ -18,12 +18,6 @@ pub struct Zone {
     pub mark: u32,
 }
 
-pub(crate) fn is_among(low: u32, high: u32, number: u32) -> bool
-    ensures { result ≡ among low high number }
-{
-    low <= number && number <= high
-}
-
 impl Leg {
     // Whether both ends are among so many stations, and the seconds from 1 to 1,000.
     pub fn is_sound(self, stations: usize) -> bool
@@ -31,12 +25,13 @@ impl Leg {
     {
         (self.from as usize) < stations
             && (self.to as usize) < stations
-            && is_among(1, 1000, self.seconds)
+            && (1..=1000).contains(&self.seconds)
     }
 }
 
 impl Zone {
-    // Whether the first station is not past the last, the last is among so many stations, and the mark is one of six.
+    // Whether the first station is not past the last, the last is among so many stations, and the mark is one of six: a chart
+    // knows of no fewer marks, so a job asks for its own by itself.
     pub(crate) fn is_sound(self, stations: u32) -> bool
         ensures { result ≡ zone_sound stations self }
     {
@@ -46,6 +41,6 @@ impl Zone {
     pub(crate) fn holds(self, station: u32) -> bool
         ensures { result ≡ in_zone station self }
     {
-        self.first <= station && station <= self.last
+        (self.first..=self.last).contains(&station)
     }
 }

@@ -6,6 +6,7 @@ pub mod bore;
 pub mod chart;
 pub mod fault;
 pub mod leg;
+pub mod spacing;
 pub mod table;
 
 pub use any::AnyChart;
@@ -13,4 +14,5 @@ pub use bore::Bore;
 pub use chart::Chart;
 pub use fault::Fault;
 pub use leg::{Leg, Zone};
+pub use spacing::Spacing;
 pub use table::Table;

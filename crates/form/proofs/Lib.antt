@@ -5,3 +5,4 @@ pub mod Walking
 pub mod Checked
 pub mod Viewed
 pub mod Put
+pub mod Spelt

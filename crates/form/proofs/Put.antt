@@ -1,9 +1,10 @@
 -- Bytes put into memory, one after another.
-use Rattle.std.proofs.Common.{◌≡◌, ℕ, ◌+◌, ◌<◌, ◌≤◌, min, List, [], ◌∷◌, ◌++◌, length, get_or, take, drop, set, decimal, sym, ap, ◌∙◌, subst, inl, inr, append_assoc, arith, length-append, length-drop, length-take}
-use Rattle.std.proofs.lemmas.List.{append-nil, take_all, take_at, drop_at, set_at, set_past, drop_more, drop-drop, take-append-le, take-append-drop}
+use Rattle.std.proofs.Common.{◌≡◌, ℕ, ◌+◌, ◌≤◌, min, List, [], ◌∷◌, ◌++◌, length, take, drop, decimal, refl, sym, ap, ◌∙◌, subst, inl, inr, append_assoc, arith, length-append, length-drop, length-take}
+use Rattle.std.proofs.lemmas.List.{append-nil, take_all, take_at, drop_at, drop-drop, take-append-le, take-append-drop}
 use Rattle.std.proofs.lemmas.Bool.{cases_lt}
 use Rattle.form.specs.Forms.{written}
-use Rattle.form.specs.Putting.{put, Puts, numbers_of}
+use Rattle.form.specs.declared.writer.Writer.{Writer}
+use Rattle.form.specs.Putting.{put, Puts, Wrote, numbers_of}
 
 put_none : (at : ℕ) (m : List ℕ) → put at [] m ≡ m
 put_none at m = ap (λ x. take (length m) (take at m ++ drop x m)) (omega arith) ∙ (ap (take (length m)) (take-append-drop at m) ∙ take_all _ m (omega arith))
@@ -25,20 +26,6 @@ put_beyond at bs m h =
 
 length_put : (at : ℕ) (bs m : List ℕ) → length (put at bs m) ≡ length m
 length_put at bs m = simp (length-append, length-take, length-drop) (omega arith)
-
-set_inside : (at : ℕ) (m : List ℕ) (b : ℕ) → at < length m → set m at b ≡ put at (b ∷ []) m
-set_inside at m b h =
-    let k : length (take at m) ≡ at = simp length-take (omega arith) in
-    ap (λ x. set x at b) (sym (take-append-drop at m) ∙ ap (λ x. take at m ++ x) (drop_more m at 0 h))
-    ∙ (set_at (take at m) (get_or m at 0) (drop (at + 1) m) b at k ∙ sym (put_fits at (b ∷ []) m (omega arith)))
-
--- one byte
-pub set_put : (at : ℕ) (m : List ℕ) (b : ℕ) → set m at b ≡ put at (b ∷ []) m
-set_put at m b =
-    elim (cases_lt at (length m)) [
-      | inl p ↦ set_inside at m b p
-      | inr p ↦ set_past m at b p ∙ sym (put_beyond at (b ∷ []) m p)
-    ]
 
 -- bytes after bytes, where the first fit
 put_inside : (at n : ℕ) (xs ys m : List ℕ) → n ≡ at + length xs → n ≤ length m → put n ys (put at xs m) ≡ put at (xs ++ ys) m
@@ -76,20 +63,27 @@ put_put at n xs ys m e h =
       | inr p ↦ put_inside at n xs ys m (omega arith) (omega arith)
     ]
 
-pub puts_none : (at : ℕ) (m : List ℕ) → at ≤ 18446744073709551615 → Puts at [] m at m
+puts_none : (at : ℕ) (m : List ℕ) → at ≤ 18446744073709551615 → Puts at [] m at m
 puts_none at m h = record { place = omega arith; after = sym (put_none at m) }
 
--- bytes, and then others after them
-pub puts_then : {at r s : ℕ} {xs ys m n o : List ℕ} → Puts at xs m r n → Puts r ys n s o → length m ≤ 18446744073709551615 → Puts at (xs ++ ys) m s o
+puts_then : {at r s : ℕ} {xs ys m n o : List ℕ} → Puts at xs m r n → Puts r ys n s o → length m ≤ 18446744073709551615 → Puts at (xs ++ ys) m s o
 puts_then {at} {r} {s} {xs} {ys} {m} {n} {o} p q h =
     record {
       place = q.place ∙ omega (arith, p.place, length-append xs ys);
       after = q.after ∙ (ap (put r ys) p.after ∙ put_put at r xs ys m p.place h);
     }
 
+-- the writer as it was
+pub wrote_none : (w : Writer) → Wrote [] w w
+wrote_none w = record { same = refl; puts = puts_none w.place w.memory.now w.low }
+
+-- bytes, and then others after them
+pub wrote_then : {xs ys : List ℕ} {u v w : Writer} → Wrote xs u v → Wrote ys v w → Wrote (xs ++ ys) u w
+wrote_then {xs} {ys} {u} p q = record { same = q.same ∙ p.same; puts = puts_then p.puts q.puts u.long }
+
 -- the same bytes by another name
-pub puts_as : {at r : ℕ} {xs ys m n : List ℕ} → xs ≡ ys → Puts at xs m r n → Puts at ys m r n
-puts_as {at} {r} {xs} {ys} {m} {n} e p = subst (λ (x : List ℕ). Puts at x m r n) e p
+pub wrote_as : {xs ys : List ℕ} {u v : Writer} → xs ≡ ys → Wrote xs u v → Wrote ys u v
+wrote_as {xs} {ys} {u} {v} e p = subst (λ (x : List ℕ). Wrote x u v) e p
 
 -- where all of the bytes fit, they stand in the memory, and nothing is cut
 pub puts_fits : {at r : ℕ} {bs m n : List ℕ} → Puts at bs m r n → at + length bs ≤ length m → length m ≤ 18446744073709551615

@@ -146,29 +146,6 @@ at_none ps x o e n = parts_none ps o (ap parted (sym e) ∙ n)
 pub at_some : (ps : Parts) (x : List ℕ) (p : Piece) (y : List ℕ) → Sound ps → x ≡ written ps ++ 41 ∷ [] → parted x ≡ Some (p, y) → Next ps p y
 at_some ps x p y o e n = parts_some ps p y o (ap parted (sym e) ∙ n)
 
--- the next part is a form, or a number
-pub parted_inner : (t rest inside : List ℕ) (n : ℕ) (f l : List ℕ) → t ≡ 32 ∷ rest → rest ≡ 40 ∷ inside → n ≡ enclosed 0 inside
-    → f ≡ take (1 + n) rest → l ≡ drop (1 + n) rest → parted t ≡ Some (bracketed f, l)
-parted_inner t rest inside n f l e g k p q =
-    let m : 1 + n ≡ suc (enclosed 0 inside) = omega arith in
-    let p' : take (suc (enclosed 0 inside)) (40 ∷ inside) ≡ f = cc in
-    let q' : drop (suc (enclosed 0 inside)) (40 ∷ inside) ≡ l = cc in
-    ap parted (e ∙ ap (λ x. 32 ∷ x) g)
-    ∙ (ap (λ x. Some (bracketed x, drop (suc (enclosed 0 inside)) (40 ∷ inside))) p' ∙ ap (λ x. Some (bracketed f, x)) q')
-
-first_value : (t : List ℕ) → ((inside : List ℕ) → t ≡ 40 ∷ inside → ⊥) → first t ≡ (value (counted 0 t), uncounted 0 t)
-first_value [] h = refl
-first_value (b ∷ t) h = cond-false (eqb b 40) _ _ (ne_eqb b 40 (λ e. h t (ap (λ x. x ∷ t) e)))
-
-pub parted_value : (t rest : List ℕ) (n : ℕ) (l : List ℕ) → t ≡ 32 ∷ rest → ((inside : List ℕ) → rest ≡ 40 ∷ inside → ⊥)
-    → n ≡ counted 0 rest → l ≡ uncounted 0 rest → parted t ≡ Some (value n, l)
-parted_value t rest n l e h p q =
-    ap parted e ∙ (ap Some (first_value rest h) ∙ (ap (λ x. Some (value x, uncounted 0 rest)) (sym p) ∙ ap (λ x. Some (value n, x)) (sym q)))
-
-pub parted_none : (t : List ℕ) → ((rest : List ℕ) → t ≡ 32 ∷ rest → ⊥) → parted t ≡ None
-parted_none [] h = refl
-parted_none (b ∷ t) h = cond-false (eqb b 32) _ _ (ne_eqb b 32 (λ e. h t (ap (λ x. x ∷ t) e)))
-
 some_of : {X : Type 0} (o : Option X) → is_some o ≡ true → (x : X) × (o ≡ Some x)
 some_of (Some x) e = (x, refl)
 some_of None e = let z : ◌≡◌ {A = ℕ} 0 1 = cc in absurd (omega arith)

@@ -3,8 +3,6 @@ ghost use Rattle.std.specs.List.{prefix_len};
 ghost use Rattle.form.specs.Forms.{letter};
 ghost use Rattle.form.specs.Viewing.{counted, uncounted};
 
-use crate::bytes::{is_digit, is_letter};
-
 // What follows the byte, if the text begins with it.
 pub fn skip<'t>(text: &'t [u8], byte: u8) -> Option<&'t [u8]>
     ensures { MatchOption result ((rest : List ℕ) → text.now ≢ byte ∷ rest) (λ rest. text.now ≡ byte ∷ rest.now) }
@@ -19,12 +17,7 @@ pub fn skip<'t>(text: &'t [u8], byte: u8) -> Option<&'t [u8]>
 fn letters(text: &[u8]) -> usize
     ensures { result ≡ prefix_len letter text.now }
 {
-    for (i, b) in text.iter().enumerate() {
-        if !is_letter(*b) {
-            return i;
-        }
-    }
-    text.len()
+    text.iter().take_while(|b| b.is_ascii_lowercase()).count()
 }
 
 // The letters that the text begins with, and what follows them.
@@ -40,10 +33,11 @@ pub fn number<'t>(text: &'t [u8]) -> (u32, &'t [u8])
     ensures value { result.0 ≡ counted 0 text.now }
     ensures rest { result.1.now ≡ uncounted 0 text.now }
 {
+    // byte by byte from the front, since what is left is an answer too
     let mut left = text;
     let mut n = 0;
     while let Some((b, rest)) = left.split_first() {
-        if !is_digit(*b) || n >= 100000 {
+        if !b.is_ascii_digit() || n >= 100000 {
             return (n, left);
         }
         n = n * 10 + u32::from(*b - b'0');

@@ -5,19 +5,16 @@ ghost use Rattle.form.specs.Faults.{fault_number};
 #[derive(Clone, Copy, PartialEq, Eq, Debug)]
 pub enum Fault {
     // a byte is not printed
-    Byte,
+    Byte = 2,
     // the bytes are not one form, well spaced
-    Shape,
+    Shape = 3,
 }
 
 impl Fault {
-    // The number that a refusal is reported by.
+    // The number that a refusal is reported by. A `From` for `u8` would be this cast too, under a name that says less.
     pub fn number(self) -> u8
         ensures { result ≡ fault_number self }
     {
-        match self {
-            Fault::Byte => 2,
-            Fault::Shape => 3,
-        }
+        self as u8
     }
 }

@@ -6,10 +6,10 @@ pub mod cursor;
 pub mod fault;
 pub mod scan;
 pub mod view;
-pub mod writing;
+pub mod writer;
 
 pub use cursor::{number, skip, word};
 pub use fault::Fault;
 pub use scan::check;
 pub use view::{Form, Part, Parts, read};
-pub use writing::{put_byte, put_bytes, put_form, put_number};
+pub use writer::Writer;

@@ -2,11 +2,11 @@ ghost use Rattle.std.specs.Prelude.{◌≡◌};
 ghost use Rattle.form.specs.Scanning.{stopped, moved};
 ghost use Rattle.form.specs.Checking.{checked};
 
-use crate::bytes::{is_digit, is_letter, is_printed};
+use crate::bytes::is_printed;
 use crate::fault::Fault;
 
 // Where a scan stands, and how many brackets are open around the innermost.
-#[derive(Clone, Copy)]
+#[derive(Clone, Copy, PartialEq, Eq)]
 enum Scan {
     Start,
     Opened(u8),
@@ -15,43 +15,40 @@ enum Scan {
     Number(u8, u32),
     After(u8),
     Done,
-    Bad,
 }
 
 impl Scan {
     // After a head or a part: a space or a bracket follows.
-    fn stopped(around: u8, b: u8) -> Scan
+    fn stopped(around: u8, b: u8) -> Option<Scan>
         ensures { result ≡ stopped around b }
     {
-        if b == b' ' {
-            Scan::Gap(around)
-        } else if b == b')' {
-            if around == 0 {
-                Scan::Done
-            } else {
-                Scan::After(around - 1)
-            }
-        } else {
-            Scan::Bad
+        match b {
+            b' ' => Some(Scan::Gap(around)),
+            b')' if around == 0 => Some(Scan::Done),
+            b')' => Some(Scan::After(around - 1)),
+            _ => None,
         }
     }
 
-    fn next(self, b: u8) -> Scan
+    // Where the scan stands after one byte more; none where no form begins so.
+    fn next(self, b: u8) -> Option<Scan>
         ensures { result ≡ moved self b }
     {
         match self {
-            Scan::Start if b == b'(' => Scan::Opened(0),
-            Scan::Opened(around) if is_letter(b) => Scan::Word(around),
-            Scan::Word(around) if is_letter(b) => Scan::Word(around),
+            Scan::Start if b == b'(' => Some(Scan::Opened(0)),
+            Scan::Opened(around) if b.is_ascii_lowercase() => Some(Scan::Word(around)),
+            Scan::Word(around) if b.is_ascii_lowercase() => Some(Scan::Word(around)),
             Scan::Word(around) => Scan::stopped(around, b),
-            Scan::Gap(around) if is_digit(b) => Scan::Number(around, u32::from(b - b'0')),
-            Scan::Gap(around) if b == b'(' && around < 15 => Scan::Opened(around + 1),
-            Scan::Number(around, n) if is_digit(b) && n > 0 && n < 100000 => {
-                Scan::Number(around, n * 10 + u32::from(b - b'0'))
+            Scan::Gap(around) if b.is_ascii_digit() => {
+                Some(Scan::Number(around, u32::from(b - b'0')))
+            }
+            Scan::Gap(around) if b == b'(' && around < 15 => Some(Scan::Opened(around + 1)),
+            Scan::Number(around, n) if b.is_ascii_digit() && n > 0 && n < 100000 => {
+                Some(Scan::Number(around, n * 10 + u32::from(b - b'0')))
             }
             Scan::Number(around, _) => Scan::stopped(around, b),
             Scan::After(around) => Scan::stopped(around, b),
-            _ => Scan::Bad,
+            _ => None,
         }
     }
 }
@@ -61,15 +58,16 @@ impl Scan {
 pub fn check(text: &[u8]) -> Result<(), Fault>
     ensures { result ≡ checked text.now }
 {
-    let mut scan = Scan::Start;
+    let mut scan = Some(Scan::Start);
     for b in text {
         if !is_printed(*b) {
             return Err(Fault::Byte);
         }
-        scan = scan.next(*b);
+        scan = scan.and_then(|scan| scan.next(*b));
     }
-    match scan {
-        Scan::Done => Ok(()),
-        _ => Err(Fault::Shape),
+    if scan == Some(Scan::Done) {
+        Ok(())
+    } else {
+        Err(Fault::Shape)
     }
 }

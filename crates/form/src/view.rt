@@ -14,7 +14,8 @@ pub enum Part<'t> {
     Form(&'t [u8]),
 }
 
-// The parts of a form, if there are at most three.
+// The parts of a form, if there are at most three, and otherwise that there are more: an enum and no list, so that one
+// pattern asks how many they are and which, and no memory is taken.
 #[derive(Clone, Copy)]
 pub enum Parts<'t> {
     Zero,
@@ -31,10 +32,12 @@ pub struct Form<'t> {
     pub parts: Parts<'t>,
 }
 
-// How many bytes there are up to the bracket, itself among them, that closes the one opened before the text.
+// How many bytes there are up to the bracket, itself among them, that closes the one opened before the text; all of them
+// where none does, which no checked form is.
 fn span(text: &[u8]) -> usize
     ensures { result ≡ enclosed 0 text.now }
 {
+    // how many inner brackets are open
     let mut open: usize = 0;
     for (i, b) in text.iter().enumerate() {
         if *b == b')' {
@@ -53,9 +56,7 @@ fn span(text: &[u8]) -> usize
 fn next_part<'t>(text: &'t [u8]) -> Option<(Part<'t>, &'t [u8])>
     ensures { MatchOption result (parted text.now ≡ None) (λ p. parted text.now ≡ Some (piece p.0, p.1.now)) }
 {
-    let Some(rest) = skip(text, b' ') else {
-        return None;
-    };
+    let rest = skip(text, b' ')?;
     let Some(inside) = skip(rest, b'(') else {
         let (n, left) = number(rest);
         return Some((Part::Number(n), left));

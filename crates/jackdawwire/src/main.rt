@@ -2,24 +2,28 @@
 #![tactic(auto)]
 
 mod bore;
+mod refused;
 mod visit;
 
 use bore::{STATIONS, TASK, letter_of, pass};
+use refused::Refused;
 use std::io;
-use task::Task;
+use task::{Fault, Task};
 
 // Passes the stations one by one, and asks at the end whether their letters satisfy the task.
 fn follow(rt: &HostRuntime, task: &Task) -> io::Result<()> {
     let mut state = None;
-    let mut letters = [0u8; 6];
-    for (i, station) in STATIONS.iter().enumerate() {
-        let Some(visit) = pass(task, state, *station) else {
-            return println!(rt; "(refused 6)");
+    for station in STATIONS {
+        let Some(visit) = pass(task, state, station) else {
+            let refused = Refused {
+                fault: Fault::OutOfRange,
+            };
+            return println!(rt; "{refused}");
         };
         println!(rt; "{visit}")?;
-        letters[i] = letter_of(*station);
         state = Some(visit.state);
     }
+    let letters = STATIONS.map(letter_of);
     if let Some(satisfied) = task.satisfied_by(&letters) {
         let answer = u8::from(satisfied);
         println!(rt; "(satisfied {answer})")?;
@@ -31,8 +35,8 @@ fn main(rt: HostRuntime) -> io::Result<()> {
     match Task::compile(2, &TASK) {
         Ok(task) => follow(&rt, &task),
         Err(fault) => {
-            let number = fault.number();
-            println!(rt; "(refused {number})")
+            let refused = Refused { fault };
+            println!(rt; "{refused}")
         }
     }
 }

@@ -1,8 +1,8 @@
 -- Forms that a line may hold.
+use Rattle.std.specs.List.{list_all}
 use Rattle.std.proofs.Common.{◌≡◌, ℕ, suc, ◌<◌, ◌≤◌, Bool, true, false, ◌&&◌, leb, List, [], ◌∷◌, length, is_some, Some, None, Option, refl, arith}
 use Rattle.std.specs.List.{AllByRecursion}
 use Rattle.std.proofs.lemmas.Bool.{and_parts, leb-true, ltb-true}
-use Rattle.chart.specs.Limits.{every}
 use Rattle.form.specs.Forms.{Tree, letter, depth, Letters, Word, Sound, Good}
 use Rattle.form.specs.Putting.{numbers_of}
 use Rattle.ltlf.specs.Ltlf.{Ltlf}
@@ -19,14 +19,14 @@ use Rattle.job.specs.Contents.{no_fault}
 use Rattle.job.specs.Rows.{task, of_numbers, tree_of}
 
 -- letters are a word
-word : (h : List ℕ) → 0 < length h → every letter h ≡ true → Word h
+word : (h : List ℕ) → 0 < length h → list_all letter h ≡ true → Word h
 word h l e = record { some = l; letters = all h e } where
-  all : (h : List ℕ) → every letter h ≡ true → Letters h
+  all : (h : List ℕ) → list_all letter h ≡ true → Letters h
   all [] e = tt
-  all (b ∷ h) e = let p = and_parts (letter b) (every letter h) e in (p.0, all h p.1)
+  all (b ∷ h) e = let p = and_parts (letter b) (list_all letter h) e in (p.0, all h p.1)
 
 -- a word and small numbers are a good form
-pub numbers_good : (h ns : List ℕ) → 0 < length h → every letter h ≡ true → Sound (numbers_of ns) → Good (of_numbers h ns)
+pub numbers_good : (h ns : List ℕ) → 0 < length h → list_all letter h ≡ true → Sound (numbers_of ns) → Good (of_numbers h ns)
 numbers_good h ns l e s = record { word = word h l e; sound = s; deep = omega (arith, flat ns) } where
   flat : (ns : List ℕ) → depth (numbers_of ns) ≡ 0
   flat [] = refl

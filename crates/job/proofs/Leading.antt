@@ -1,8 +1,9 @@
 -- The lines of a job within the limits, taken one after the other, lead to that job.
+use Rattle.std.specs.List.{list_all}
 use Rattle.std.proofs.Common.{◌≡◌, ℕ, suc, ◌+◌, ◌-◌, ◌^◌, ◌<◌, ◌≤◌, Bool, true, false, cond, ◌&&◌, eqb, ltb, leb, List, [], ◌∷◌, ◌++◌, map, length, replicate, Some, None, Ok, Err, codes, Option, Result, sym, refl, ap, ◌∙◌, subst, append_assoc, arith, length-append, pow_mono}
 use Rattle.std.proofs.lemmas.List.{append-nil, length_push, set_at}
 use Rattle.std.proofs.lemmas.Bool.{cond-true, and_parts, and_from, leb-true, ltb-true, eqb-true, eqb-false, le-leb, lt-ltb, ne_eqb}
-use Rattle.chart.specs.Limits.{among, every, leg_sound, legs_sound}
+use Rattle.chart.specs.Limits.{among, leg_sound, legs_sound}
 use Rattle.chart.specs.declared.leg.Leg.{Leg}
 use Rattle.chart.specs.declared.leg.Zone.{Zone}
 use Rattle.task.specs.Faults.{task_fault}
@@ -36,10 +37,10 @@ abbrev Labels : ℕ → ℕ → List ℕ → List Row → List ℕ → Type 0
 Labels q k now rows aim = (i : ℕ) × Takes (drawn (at.Labels k) q (table now [])) rows (drawn (at.Labels i) q (table aim []))
 
 labels_take : (q k : ℕ) (front letters : List ℕ) → q ≤ 6 → k ≤ length front → length front + length letters ≤ 256
-    → every (λ a. ltb a (2 ^ q)) letters ≡ true → Labels q k (front ++ replicate (length letters) 0) (label_rows (length front) letters) (front ++ letters)
+    → list_all (λ a. ltb a (2 ^ q)) letters ≡ true → Labels q k (front ++ replicate (length letters) 0) (label_rows (length front) letters) (front ++ letters)
 labels_take q k front [] l h o e = (k, stay)
 labels_take q k front (a ∷ letters) l h o e =
-    let p = and_parts (ltb a (2 ^ q)) (every (λ a. ltb a (2 ^ q)) letters) e in
+    let p = and_parts (ltb a (2 ^ q)) (list_all (λ a. ltb a (2 ^ q)) letters) e in
     by (eqb a 0) refl (ltb-true _ _ p.0)
     (λ i f. labels_take q i (front ++ a ∷ []) letters l f (omega (arith, length_push front a)) p.1) where
       Later : Type 0
@@ -94,11 +95,11 @@ legs_take q p letters front (l ∷ legs) b t n o e =
     )
 
 -- zones, one after another
-zones_take : (q n d u : ℕ) (front zones : List Zone) → q ≤ 6 → n ≤ 256 → length front + length zones ≤ 8 → every (zone_fits q n) zones ≡ true
+zones_take : (q n d u : ℕ) (front zones : List Zone) → q ≤ 6 → n ≤ 256 → length front + length zones ≤ 8 → list_all (zone_fits q n) zones ≡ true
     → Takes (drawn at.Zones q (bore n d u front)) (map zone zones) (drawn at.Zones q (bore n d u (front ++ zones)))
 zones_take q n d u front [] l m o e = subst (λ (x : List Zone). Takes (drawn at.Zones q (bore n d u front)) [] (drawn at.Zones q (bore n d u x))) (sym (append-nil front)) stay
 zones_take q n d u front (z ∷ zones) l m o e =
-    let s = and_parts (zone_fits q n z) (every (zone_fits q n) zones) e in
+    let s = and_parts (zone_fits q n z) (list_all (zone_fits q n) zones) e in
     let v = and_parts (leb z.first z.last && ltb z.last n) _ s.0 in
     let w = and_parts (leb z.first z.last) _ v.0 in
     let f = leb-true _ _ w.0 in

@@ -1,5 +1,4 @@
 pub mod Seen
-pub mod Fields
 pub mod Lined
 pub mod Broken
 pub mod Goods

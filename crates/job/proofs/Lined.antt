@@ -1,5 +1,6 @@
 -- A line and its bytes.
 use Rattle.std.proofs.Common.{◌≡◌, ℕ, Bool, true, false, cond, leb, List, [], ◌∷◌, Some, None, Ok, Err, codes, Option, sym, refl, ap, ◌∙◌, subst, arith}
+use Rattle.std.specs.Option.{option_and_then}
 use Rattle.std.specs.Str.{bytes_eq}
 use Rattle.std.proofs.lemmas.Slice.Eq.{bytes_eq-Decides}
 use Rattle.std.proofs.lemmas.Bool.{cond-true, cond_both, and_parts, leb-true}
@@ -29,7 +30,7 @@ pub unbroken_row : (r : Row) → Good (tree_of r) → Unbroken (bytes_of (tree_o
 unbroken_row r g = unbroken_plain (bytes_of (tree_of r)) (good_plain (tree_of r) g)
 
 -- a line's form is known as that line
-known_row : (r : Row) → known (row_in (head_of (tree_of r).head) (tree_of r).parts) ≡ Ok r
+known_row : (r : Row) → known (option_and_then (λ w. row_in w (tree_of r).parts) (head_of (tree_of r).head)) ≡ Ok r
 known_row (version n) = refl
 known_row (marks n) = refl
 known_row (stations n) = refl
@@ -47,25 +48,25 @@ asked_row r g =
     cond-true (plain (bytes_of (tree_of r))) _ _ (good_plain (tree_of r) g) ∙ (ap formed (reading_right.reads (tree_of r) g) ∙ known_row r)
 
 -- the word that a head stands for
-abbrev HeadIs : List ℕ → Head → Type 0
-HeadIs h head.Version = h ≡ codes "job"
-HeadIs h head.Marks = h ≡ codes "marks"
-HeadIs h head.Stations = h ≡ codes "stations"
-HeadIs h head.Label = h ≡ codes "label"
-HeadIs h head.Leg = h ≡ codes "leg"
-HeadIs h head.Bore = h ≡ codes "bore"
-HeadIs h head.Zone = h ≡ codes "zone"
-HeadIs h head.Task = h ≡ codes "task"
-HeadIs h head.Start = h ≡ codes "start"
-HeadIs h head.Lookahead = h ≡ codes "lookahead"
-HeadIs h head.Other = Unit {0}
+abbrev HeadIs : List ℕ → Option Head → Type 0
+HeadIs h None = Unit {0}
+HeadIs h (Some head.Version) = h ≡ codes "job"
+HeadIs h (Some head.Marks) = h ≡ codes "marks"
+HeadIs h (Some head.Stations) = h ≡ codes "stations"
+HeadIs h (Some head.Label) = h ≡ codes "label"
+HeadIs h (Some head.Leg) = h ≡ codes "leg"
+HeadIs h (Some head.Bore) = h ≡ codes "bore"
+HeadIs h (Some head.Zone) = h ≡ codes "zone"
+HeadIs h (Some head.Task) = h ≡ codes "task"
+HeadIs h (Some head.Start) = h ≡ codes "start"
+HeadIs h (Some head.Lookahead) = h ≡ codes "lookahead"
 
 head_is : (h : List ℕ) → HeadIs h (head_of h)
 head_is h =
     by (codes "leg") _ _ (λ e. e) (by (codes "label") _ _ (λ e. e) (by (codes "zone") _ _ (λ e. e) (by (codes "job") _ _ (λ e. e)
     (by (codes "marks") _ _ (λ e. e) (by (codes "stations") _ _ (λ e. e) (by (codes "bore") _ _ (λ e. e) (by (codes "task") _ _ (λ e. e)
     (by (codes "start") _ _ (λ e. e) (by (codes "lookahead") _ _ (λ e. e) tt))))))))) where
-      by : (w : List ℕ) (x y : Head) → (h ≡ w → HeadIs h x) → HeadIs h y → HeadIs h (cond (bytes_eq h w) x y)
+      by : (w : List ℕ) (x y : Option Head) → (h ≡ w → HeadIs h x) → HeadIs h y → HeadIs h (cond (bytes_eq h w) x y)
       by w x y p q = cond_both (bytes_eq h w) x y (HeadIs h) (λ e. p ((bytes_eq-Decides h w).0 e)) (λ _. q)
 
 -- parts that are known as a line, under its word, are those of its form
@@ -111,7 +112,7 @@ module _ (h w : List ℕ) (i : h ≡ w) (r : Row) where
   single_came f (inner g rs (inner k' ss ps)) k e = cc
 
 -- a form that is known as a line is that line's form
-row_came : (h : List ℕ) (w : Head) (ps : Parts) (r : Row) → HeadIs h w → row_in w ps ≡ Some r → record { head = h; parts = ps } ≡ tree_of r
+row_came : (h : List ℕ) (w : Head) (ps : Parts) (r : Row) → HeadIs h (Some w) → row_in w ps ≡ Some r → record { head = h; parts = ps } ≡ tree_of r
 row_came h head.Version ps r i e = one_came h _ i r version ps (λ a. refl) e
 row_came h head.Marks ps r i e = one_came h _ i r marks ps (λ a. refl) e
 row_came h head.Stations ps r i e = one_came h _ i r stations ps (λ a. refl) e
@@ -122,19 +123,23 @@ row_came h head.Zone ps r i e = three_came h _ i r (λ a b m. zone (record { fir
 row_came h head.Task ps r i e = single_came h _ i r task ps (λ t. refl) e
 row_came h head.Start ps r i e = one_came h _ i r start ps (λ a. refl) e
 row_came h head.Lookahead ps r i e = one_came h _ i r lookahead ps (λ a. refl) e
-row_came h head.Other ps r i e = cc
 
 -- what is read as a line is that line's bytes
 pub asked_came : (t : List ℕ) (r : Row) → asked t ≡ Ok r → (t ≡ bytes_of (tree_of r)) × Good (tree_of r)
 asked_came t r e = by (plain t) (form_of t) _ refl e where
-  found : (f : Tree) (o : Option Row) → row_in (head_of f.head) f.parts ≡ o → known o ≡ Ok r → f ≡ tree_of r
+  under_head : (h : List ℕ) (d : Option Head) (ps : Parts) → HeadIs h d → option_and_then (λ w. row_in w ps) d ≡ Some r
+      → record { head = h; parts = ps } ≡ tree_of r
+  under_head h None ps i k = cc
+  under_head h (Some w) ps i k = row_came h w ps r i k
+
+  found : (f : Tree) (o : Option Row) → option_and_then (λ w. row_in w f.parts) (head_of f.head) ≡ o → known o ≡ Ok r → f ≡ tree_of r
   found f None k e = cc
-  found f (Some s) k e = row_came f.head (head_of f.head) f.parts r (head_is f.head) (let q : s ≡ r = cc in k ∙ ap Some q)
+  found f (Some s) k e = under_head f.head (head_of f.head) f.parts (head_is f.head) (let q : s ≡ r = cc in k ∙ ap Some q)
 
   by : (b : Bool) (o : Option Tree) (x : Fault) → form_of t ≡ o → cond b (formed o) (Err x) ≡ Ok r → (t ≡ bytes_of (tree_of r)) × Good (tree_of r)
   by false o x k e = let z : ◌≡◌ {A = ℕ} 0 1 = cc in absurd (omega arith)
   by true None x k e = let z : ◌≡◌ {A = ℕ} 0 1 = cc in absurd (omega arith)
   by true (Some f) x k e =
-      let q = found f (row_in (head_of f.head) f.parts) refl e in
+      let q = found f (option_and_then (λ w. row_in w f.parts) (head_of f.head)) refl e in
       let w = reading_right.writes t f k in
       (w.0 ∙ ap bytes_of q, subst Good q w.1)

@@ -1,5 +1,5 @@
 -- Lines, put one after another.
-use Rattle.std.proofs.Common.{◌≡◌, ℕ, suc, ◌+◌, ◌<◌, ◌≤◌, Bool, true, false, cond, eqb, List, [], ◌∷◌, ◌++◌, map, length, get_or, take, sym, refl, ap, ◌∙◌, append_assoc, arith}
+use Rattle.std.proofs.Common.{◌≡◌, ℕ, suc, ◌+◌, ◌<◌, Bool, true, false, cond, eqb, List, [], ◌∷◌, ◌++◌, map, length, get_or, take, sym, refl, ap, ◌∙◌, append_assoc, arith}
 use Rattle.std.specs.List.{flat_map}
 use Rattle.std.proofs.lemmas.List.{append-nil, flat_map_more, length-take, map_more, take_more}
 use Rattle.std.proofs.lemmas.Bool.{cond-true, cond-false, ne_eqb}
@@ -48,13 +48,12 @@ joined_append [] more = refl
 joined_append (r ∷ rows) more = ap (λ x. row_bytes r ++ x) (joined_append rows more) ∙ sym (append_assoc (row_bytes r) (flat_map row_bytes rows) (flat_map row_bytes more))
 
 -- the lines of a table
-pub table_lines : (n : ℕ) (letters : List ℕ) (legs : List Leg) → n ≤ length letters
-    → (row_bytes (stations n) ++ flat_map row_bytes (label_rows 0 (take n letters))) ++ flat_map row_bytes (map leg legs)
-    ≡ flat_map row_bytes (layout_rows (table (take n letters) legs))
-table_lines n letters legs h =
-    append_assoc (row_bytes (stations n)) (flat_map row_bytes (label_rows 0 (take n letters))) (flat_map row_bytes (map leg legs))
-    ∙ (ap (λ x. row_bytes (stations n) ++ x) (sym (joined_append (label_rows 0 (take n letters)) (map leg legs)))
-    ∙ ap (λ k. row_bytes (stations k) ++ flat_map row_bytes (label_rows 0 (take n letters) ++ map leg legs)) (omega (arith, length-take n letters)))
+pub table_lines : (letters : List ℕ) (legs : List Leg)
+    → (row_bytes (stations (length letters)) ++ flat_map row_bytes (label_rows 0 letters)) ++ flat_map row_bytes (map leg legs)
+    ≡ flat_map row_bytes (layout_rows (table letters legs))
+table_lines letters legs =
+    append_assoc (row_bytes (stations (length letters))) (flat_map row_bytes (label_rows 0 letters)) (flat_map row_bytes (map leg legs))
+    ∙ ap (λ x. row_bytes (stations (length letters)) ++ x) (sym (joined_append (label_rows 0 letters) (map leg legs)))
 
 pieces : (a b c d e f : List ℕ) → ((((a ++ b) ++ c) ++ d) ++ e) ++ f ≡ a ++ (b ++ (c ++ (d ++ (e ++ (f ++ [])))))
 pieces a b c d e f = simp (append_assoc, append-nil)

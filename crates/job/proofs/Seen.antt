@@ -1,5 +1,6 @@
 -- From what a form's reader shows to the line.
 use Rattle.std.proofs.Common.{◌≡◌, ℕ, ◌<◌, true, List, [], ◌∷◌, length, Some, None, Ok, Err, Option, Result, sym, refl, ap, ◌∙◌, subst, arith}
+use Rattle.std.specs.Option.{option_and_then}
 use Rattle.std.proofs.lemmas.Bool.{cond-true}
 use Rattle.form.specs.Forms.{Parts, none, number, inner, Tree, Good, bytes_of, line_of as form_bytes}
 use Rattle.form.specs.Reading.{form_of}
@@ -17,9 +18,9 @@ use Rattle.job.specs.declared.line.Head.TheVariants as head
 use Rattle.job.specs.declared.line.Line.{Line}
 use Rattle.job.specs.declared.line.Line.TheVariants as line
 use Rattle.job.specs.declared.line.Values.{Values}
-use Rattle.job.specs.declared.line.Values.TheVariants.{One, Two, Three, Form, Other}
+use Rattle.job.specs.declared.line.Values.TheVariants.{One, Two, Three, Form}
 use Rattle.job.specs.Rows.{Row, version, marks, stations, label, leg, boring, zone, task, start, lookahead, head_of, one, two, three, single, row_in, known, formed, asked}
-use Rattle.job.specs.Lining.{seen, one_of, two_of, three_of, form_in, made, line_of, Is, Asks}
+use Rattle.job.specs.Lining.{seen, one_of, two_of, three_of, form_in, line_of, Is, Asks}
 
 -- parts, from their pieces
 pieces_nil : (ps : Parts) → pieces ps ≡ [] → ps ≡ none
@@ -86,12 +87,12 @@ unfit_as : (ps qs : Parts) → ps ≡ qs → Unfit qs → Unfit ps
 unfit_as ps qs e u = subst (λ (x : Parts). Unfit x) (sym e) u
 
 -- what the parts are, by what is held of them
-abbrev ValuesOf : Values → Parts → Type 0
-ValuesOf (One a) ps = ps ≡ number a none
-ValuesOf (Two a b) ps = ps ≡ number a (number b none)
-ValuesOf (Three a b c) ps = ps ≡ number a (number b (number c none))
-ValuesOf (Form t) ps = (f : Tree) × (ps ≡ inner f.head f.parts none) × (t.now ≡ bytes_of f)
-ValuesOf Other ps = Unfit ps
+abbrev ValuesOf : Option Values → Parts → Type 0
+ValuesOf None ps = Unfit ps
+ValuesOf (Some (One a)) ps = ps ≡ number a none
+ValuesOf (Some (Two a b)) ps = ps ≡ number a (number b none)
+ValuesOf (Some (Three a b c)) ps = ps ≡ number a (number b (number c none))
+ValuesOf (Some (Form t)) ps = (f : Tree) × (ps ≡ inner f.head f.parts none) × (t.now ≡ bytes_of f)
 
 seen_one : (p : Part) (ps : Parts) → pieces ps ≡ piece p ∷ [] → ValuesOf (seen (shown.One p)) ps
 seen_one (part.Number m) ps e = let v = pieces_value ps m [] e in v.whole ∙ ap (number m) (pieces_nil v.rest v.left)
@@ -139,40 +140,38 @@ seen_is (shown.Three p q r) ps e = seen_three p q r ps e
 seen_is shown.More ps l = unfit_many ps l
 
 -- a line that was made, and the row that it is
-abbrev LineIs : Result Line Fault → Option Row → Type 0
-LineIs (Ok l) None = ⊥
-LineIs (Ok l) (Some r) = Is l r
-LineIs (Err e) None = e ≡ fault.Unknown
-LineIs (Err e) (Some r) = ⊥
+abbrev LineIs : Option Line → Option Row → Type 0
+LineIs None None = Unit {0}
+LineIs None (Some r) = ⊥
+LineIs (Some l) None = ⊥
+LineIs (Some l) (Some r) = Is l r
 
-is_some : (l : Line) (w : Row) (r : Option Row) → r ≡ Some w → Is l w → LineIs (Ok l) r
-is_some l w r e k = subst (λ (y : Option Row). LineIs (Ok l) y) (sym e) k
+is_some : (l : Line) (w : Row) (r : Option Row) → r ≡ Some w → Is l w → LineIs (Some l) r
+is_some l w r e k = subst (λ (y : Option Row). LineIs (Some l) y) (sym e) k
 
-is_none : (r : Option Row) → r ≡ None → LineIs (Err fault.Unknown) r
-is_none r e = subst (λ (y : Option Row). LineIs (Err fault.Unknown) y) (sym e) refl
+is_none : (r : Option Row) → r ≡ None → LineIs None r
+is_none r e = subst (λ (y : Option Row). LineIs None y) (sym e) tt
 
-one_is : (f : ℕ → Line) (g : ℕ → Row) → ((a : ℕ) → Is (f a) (g a)) → (v : Values) (ps : Parts) → ValuesOf v ps → LineIs (made f (one_of v)) (one g ps)
+one_is : (f : ℕ → Line) (g : ℕ → Row) → ((a : ℕ) → Is (f a) (g a)) → (v : Values) (ps : Parts) → ValuesOf (Some v) ps → LineIs (one_of f v) (one g ps)
 one_is f g k (One a) ps e = is_some (f a) (g a) (one g ps) (ap (one g) e) (k a)
 one_is f g k (Two a b) ps e = is_none (one g ps) (ap (one g) e)
 one_is f g k (Three a b c) ps e = is_none (one g ps) (ap (one g) e)
 one_is f g k (Form t) ps e = is_none (one g ps) (ap (one g) e.1)
-one_is f g k Other ps u = is_none (one g ps) (u.0 g)
 
-two_is : (f : ℕ × ℕ → Line) (g : ℕ → ℕ → Row) → ((a b : ℕ) → Is (f (a, b)) (g a b)) → (v : Values) (ps : Parts) → ValuesOf v ps → LineIs (made f (two_of v)) (two g ps)
+two_is : (f : ℕ → ℕ → Line) (g : ℕ → ℕ → Row) → ((a b : ℕ) → Is (f a b) (g a b)) → (v : Values) (ps : Parts) → ValuesOf (Some v) ps → LineIs (two_of f v) (two g ps)
 two_is f g k (One a) ps e = is_none (two g ps) (ap (two g) e)
-two_is f g k (Two a b) ps e = is_some (f (a, b)) (g a b) (two g ps) (ap (two g) e) (k a b)
+two_is f g k (Two a b) ps e = is_some (f a b) (g a b) (two g ps) (ap (two g) e) (k a b)
 two_is f g k (Three a b c) ps e = is_none (two g ps) (ap (two g) e)
 two_is f g k (Form t) ps e = is_none (two g ps) (ap (two g) e.1)
-two_is f g k Other ps u = is_none (two g ps) (u.1 g)
 
-three_is : (f : ℕ × ℕ × ℕ → Line) (g : ℕ → ℕ → ℕ → Row) → ((a b c : ℕ) → Is (f (a, b, c)) (g a b c)) → (v : Values) (ps : Parts) → ValuesOf v ps → LineIs (made f (three_of v)) (three g ps)
+three_is : (f : ℕ → ℕ → ℕ → Line) (g : ℕ → ℕ → ℕ → Row) → ((a b c : ℕ) → Is (f a b c) (g a b c)) → (v : Values) (ps : Parts) → ValuesOf (Some v) ps
+    → LineIs (three_of f v) (three g ps)
 three_is f g k (One a) ps e = is_none (three g ps) (ap (three g) e)
 three_is f g k (Two a b) ps e = is_none (three g ps) (ap (three g) e)
-three_is f g k (Three a b c) ps e = is_some (f (a, b, c)) (g a b c) (three g ps) (ap (three g) e) (k a b c)
+three_is f g k (Three a b c) ps e = is_some (f a b c) (g a b c) (three g ps) (ap (three g) e) (k a b c)
 three_is f g k (Form t) ps e = is_none (three g ps) (ap (three g) e.1)
-three_is f g k Other ps u = is_none (three g ps) (u.2 g)
 
-form_is : (h : List ℕ) (v : Values) (ps : Parts) → Good (record { head = h; parts = ps }) → ValuesOf v ps → LineIs (made line.Task (form_in v)) (single task ps)
+form_is : (h : List ℕ) (v : Values) (ps : Parts) → Good (record { head = h; parts = ps }) → ValuesOf (Some v) ps → LineIs (form_in line.Task v) (single task ps)
 form_is h (One a) ps g e = is_none (single task ps) (ap (single task) e)
 form_is h (Two a b) ps g e = is_none (single task ps) (ap (single task) e)
 form_is h (Three a b c) ps g e = is_none (single task ps) (ap (single task) e)
@@ -180,34 +179,60 @@ form_is h (Form t) ps g e =
     let f = e.0 in
     is_some (line.Task t) (task f) (single task ps) (ap (single task) e.1)
     (f, refl, e.2, sub_good h f.head f.parts none (subst (λ (x : Parts). Good (record { head = h; parts = x })) e.1 g))
-form_is h Other ps g u = is_none (single task ps) (u.3 task)
 
-line_is : (d : Head) (h : List ℕ) (v : Values) (ps : Parts) → Good (record { head = h; parts = ps }) → ValuesOf v ps → LineIs (line_of d v) (row_in d ps)
+line_is : (d : Head) (h : List ℕ) (v : Values) (ps : Parts) → Good (record { head = h; parts = ps }) → ValuesOf (Some v) ps → LineIs (line_of d v) (row_in d ps)
 line_is head.Version h v ps g k = one_is line.Version version (λ a. refl) v ps k
 line_is head.Marks h v ps g k = one_is line.Marks marks (λ a. refl) v ps k
 line_is head.Stations h v ps g k = one_is line.Stations stations (λ a. refl) v ps k
-line_is head.Label h v ps g k = two_is _ label (λ a b. refl) v ps k
+line_is head.Label h v ps g k = two_is line.Label label (λ a b. refl) v ps k
 line_is head.Leg h v ps g k = three_is _ (λ s t w. leg (record { from = s; to = t; seconds = w })) (λ a b c. refl) v ps k
 line_is head.Bore h v ps g k = three_is _ boring (λ a b c. refl) v ps k
 line_is head.Zone h v ps g k = three_is _ (λ a b m. zone (record { first = a; last = b; mark = m })) (λ a b c. refl) v ps k
 line_is head.Task h v ps g k = form_is h v ps g k
 line_is head.Start h v ps g k = one_is line.Start start (λ a. refl) v ps k
 line_is head.Lookahead h v ps g k = one_is line.Lookahead lookahead (λ a. refl) v ps k
-line_is head.Other h v ps g k = refl
+
+-- parts that no line has make no row
+unfit_is : (d : Head) (ps : Parts) → Unfit ps → row_in d ps ≡ None
+unfit_is head.Version ps u = u.0 version
+unfit_is head.Marks ps u = u.0 marks
+unfit_is head.Stations ps u = u.0 stations
+unfit_is head.Label ps u = u.1 label
+unfit_is head.Leg ps u = u.2 _
+unfit_is head.Bore ps u = u.2 boring
+unfit_is head.Zone ps u = u.2 _
+unfit_is head.Task ps u = u.3 task
+unfit_is head.Start ps u = u.0 start
+unfit_is head.Lookahead ps u = u.0 lookahead
+
+-- the line of what may be a head and what may be its parts
+abbrev pub lined : Option Head → Option Values → Option Line
+lined None v = None
+lined (Some d) None = None
+lined (Some d) (Some v) = line_of d v
+
+lined_is : (d : Option Head) (h : List ℕ) (v : Option Values) (ps : Parts) → Good (record { head = h; parts = ps }) → ValuesOf v ps
+    → LineIs (lined d v) (option_and_then (λ w. row_in w ps) d)
+lined_is None h v ps g k = tt
+lined_is (Some d) h None ps g k = is_none (row_in d ps) (unfit_is d ps k)
+lined_is (Some d) h (Some v) ps g k = line_is d h v ps g k
 
 -- what the reader of a line answers, from the form that was read
-asks_known : (t : List ℕ) (x : Result Line Fault) (r : Option Row) → asked t ≡ known r → LineIs x r → Asks t x
-asks_known t (Ok l) None e k = absurd k
-asks_known t (Ok l) (Some r) e k = (r, e, k)
-asks_known t (Err f) None e k = e ∙ ap Err (sym k)
-asks_known t (Err f) (Some r) e k = absurd k
+abbrev pub answered : Option Line → Result Line Fault
+answered None = Err fault.Unknown
+answered (Some l) = Ok l
 
-pub asks_line : (t : List ℕ) (f : Tree) (w : List ℕ) (d : Head) (s : Shown) (v : Values) (x : Result Line Fault)
-    → plain t ≡ true → form_of t ≡ Some f → w ≡ f.head → Shows s (pieces f.parts) → d ≡ head_of w → v ≡ seen s → x ≡ line_of d v → Asks t x
-asks_line t f w d s v x p r ew es ed ev ex =
+asks_known : (t : List ℕ) (x : Option Line) (r : Option Row) → asked t ≡ known r → LineIs x r → Asks t (answered x)
+asks_known t None None e k = e
+asks_known t None (Some r) e k = absurd k
+asks_known t (Some l) None e k = absurd k
+asks_known t (Some l) (Some r) e k = (r, e, k)
+
+pub asks_line : (t : List ℕ) (f : Tree) (w : List ℕ) (s : Shown) (x : Option Line)
+    → plain t ≡ true → form_of t ≡ Some f → w ≡ f.head → Shows s (pieces f.parts) → x ≡ lined (head_of w) (seen s) → Asks t (answered x)
+asks_line t f w s x p r ew es ex =
     let g = (reading_right.writes t f r).1 in
-    let i = seen_is s f.parts es in
-    let k = line_is (head_of f.head) f.head (seen s) f.parts g i in
-    let e : x ≡ line_of (head_of f.head) (seen s) = ex ∙ (ap (λ z. line_of z v) (ed ∙ ap head_of ew) ∙ ap (line_of (head_of f.head)) ev) in
-    asks_known t x (row_in (head_of f.head) f.parts) (cond-true (plain t) (formed (form_of t)) _ p ∙ ap formed r)
-    (subst (λ (z : Result Line Fault). LineIs z (row_in (head_of f.head) f.parts)) (sym e) k)
+    let k = lined_is (head_of f.head) f.head (seen s) f.parts g (seen_is s f.parts es) in
+    let e : x ≡ lined (head_of f.head) (seen s) = ex ∙ ap (λ z. lined (head_of z) (seen s)) ew in
+    asks_known t x (option_and_then (λ d. row_in d f.parts) (head_of f.head)) (cond-true (plain t) (formed (form_of t)) _ p ∙ ap formed r)
+    (subst (λ (z : Option Line). LineIs z (option_and_then (λ d. row_in d f.parts) (head_of f.head))) (sym e) k)

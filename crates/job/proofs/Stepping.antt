@@ -16,7 +16,7 @@ use Rattle.job.specs.Contents.{Layout, unset, table, bore, Contents, stations_in
 use Rattle.job.specs.Rows.{Row, version, marks, stations, label, leg, boring, zone, task, start, lookahead, tree_of, label_rows, layout_rows, rows_of}
 use Rattle.job.specs.Taking.{Draft, rank, floor_at, with_label, with_leg, with_zone, with_marks, with_chart, with_task, with_start, with_lookahead, ask, goes, limited, tasked, taken}
 use Rattle.job.proofs.Letters.{zero_replicate, zero_rows}
-use Rattle.job.proofs.Charted.{every_replicate, Labelled, IsTable, IsBore, label_more, leg_more, zone_more}
+use Rattle.job.proofs.Charted.{passes_replicate, Labelled, IsTable, IsBore, label_more, leg_more, zone_more}
 
 -- the two halves of a job's limits before its start
 abbrev charted : Contents → Bool
@@ -153,7 +153,7 @@ module _ (p : Place) (j : Contents) (sane : SaneAt p j) (m : Draft) where
           and_from _ _ s
               (and_from _ _
               (and_from _ _ (ap (among 1 256) (length-replicate n 0) ∙ b.0)
-              (every_replicate (λ a. ltb a (2 ^ j.marks)) n 0 (lt-ltb 0 (2 ^ j.marks) (pow_pos j.marks))))
+              (passes_replicate (λ a. ltb a (2 ^ j.marks)) n 0 (lt-ltb 0 (2 ^ j.marks) (pow_pos j.marks))))
               refl),
           (refl, z),
         ),

@@ -1,6 +1,7 @@
 -- What a job says: its marks, chart, task, start and lookahead, and which jobs there are.
 use Rattle.std.specs.Prelude.{ℕ, suc, ◌^◌, Bool, true, false, ◌&&◌, ltb, List, [], length, Some, None, Option, nat_le, nat_lt}
-use Rattle.chart.specs.Limits.{among, every, legs_sound}
+use Rattle.std.specs.List.{list_all}
+use Rattle.chart.specs.Limits.{among, legs_sound, spacing_sound}
 use Rattle.chart.specs.declared.leg.Leg.{Leg}
 use Rattle.chart.specs.declared.leg.Zone.{Zone}
 use Rattle.form.specs.Forms.{depth}
@@ -52,9 +53,9 @@ zone_fits p n z = (nat_le z.first z.last && nat_lt z.last n) && nat_lt z.mark p
 abbrev pub layout_within : ℕ → Layout → Bool
 layout_within p unset = false
 layout_within p (table letters legs) =
-    (among 1 256 (length letters) && every (λ a. ltb a (2 ^ p)) letters) && (nat_le (length legs) 1024 && legs_sound (length letters) legs)
+    (among 1 256 (length letters) && list_all (λ a. ltb a (2 ^ p)) letters) && (nat_le (length legs) 1024 && legs_sound (length letters) legs)
 layout_within p (bore n d u zones) =
-    (among 1 256 n && (among 1 1000 d && among 1 1000 u)) && (nat_le (length zones) 8 && every (zone_fits p n) zones)
+    spacing_sound n d u && (nat_le (length zones) 8 && list_all (zone_fits p n) zones)
 
 abbrev pub no_fault : Option TaskFault → Bool
 no_fault None = true

@@ -1,7 +1,7 @@
 -- What the fields of the job record stand for.
-use Rattle.std.specs.Prelude.{◌≡◌, ℕ, List, Ok, Err, vec_items, Result}
+use Rattle.std.specs.Prelude.{◌≡◌, List, ℕ, Ok, Err, vec_items, Result}
+use Rattle.job.specs.declared.draft.Draft as drafted
 use Rattle.job.specs.declared.fault.Fault.{Fault}
-use Rattle.job.specs.declared.place.Place.{Place}
 use Rattle.job.specs.declared.record.Job.{Job}
 use Rattle.job.specs.Contents.{Layout, Contents}
 use Rattle.job.specs.Holding.{layout, contents}
@@ -9,22 +9,22 @@ use Rattle.job.specs.Rows.{Row}
 use Rattle.job.specs.Taking.{Draft, taken}
 use Rattle.job.specs.Texts.{line_taken}
 
-abbrev pub layout_of : Job → Layout
-layout_of j = layout j.kind j.stations j.letters (vec_items j.legs) j.down j.up (vec_items j.zones)
+abbrev pub layout_of : drafted.Draft → Layout
+layout_of d = layout d.kind (vec_items d.letters) (vec_items d.legs) (vec_items d.zones)
 
 abbrev pub contents_of : Job → Contents
-contents_of j = contents j.marks (layout_of j) j.task j.start j.lookahead
+contents_of j = contents j.draft
 
 -- a record that is being filled, and which line may come next
-abbrev pub draft_of : Place → Job → Draft
-draft_of p j = record { place = p; job = contents_of j }
+abbrev pub draft_of : drafted.Draft → Draft
+draft_of d = record { place = d.place; job = contents d }
 
--- a row was taken at a place, which made one record of another and gave the next place, or it was refused
-abbrev pub Takes : Place → Job → Row → Result Place Fault → Job → Type 0
-Takes p j r (Ok q) k = taken (draft_of p j) r ≡ Ok (draft_of q k)
-Takes p j r (Err e) k = taken (draft_of p j) r ≡ Err e
+-- a row was taken, which made one draft of another, or it was refused
+abbrev pub Takes : drafted.Draft → Row → Result (Unit {0}) Fault → drafted.Draft → Type 0
+Takes d r (Ok _) e = taken (draft_of d) r ≡ Ok (draft_of e)
+Takes d r (Err f) e = taken (draft_of d) r ≡ Err f
 
 -- the same of a row's bytes
-abbrev pub TakesBytes : Place → Job → List ℕ → Result Place Fault → Job → Type 0
-TakesBytes p j bs (Ok q) k = line_taken (draft_of p j) bs ≡ Ok (draft_of q k)
-TakesBytes p j bs (Err e) k = line_taken (draft_of p j) bs ≡ Err e
+abbrev pub TakesBytes : drafted.Draft → List ℕ → Result (Unit {0}) Fault → drafted.Draft → Type 0
+TakesBytes d bs (Ok _) e = line_taken (draft_of d) bs ≡ Ok (draft_of e)
+TakesBytes d bs (Err f) e = line_taken (draft_of d) bs ≡ Err f

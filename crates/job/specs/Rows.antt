@@ -1,6 +1,7 @@
 -- The lines of a job text, as forms.
 use Rattle.std.specs.Prelude.{ℕ, suc, cond, List, [], ◌∷◌, ◌++◌, map, length, Some, None, Ok, Err, codes, Option, Result, ◌==◌}
 use Rattle.std.specs.List.{flat_map}
+use Rattle.std.specs.Option.{option_and_then}
 use Rattle.std.specs.Str.{bytes_eq}
 use Rattle.chart.specs.declared.leg.Leg.{Leg}
 use Rattle.chart.specs.declared.leg.Zone.{Zone}
@@ -72,18 +73,18 @@ abbrev pub writing : Contents → List ℕ
 writing j = flat_map row_bytes (rows_of j)
 
 -- what the head of a line stands for
-abbrev pub head_of : List ℕ → Head
+abbrev pub head_of : List ℕ → Option Head
 head_of h =
-    cond (bytes_eq h (codes "leg")) head.Leg
-    (cond (bytes_eq h (codes "label")) head.Label
-    (cond (bytes_eq h (codes "zone")) head.Zone
-    (cond (bytes_eq h (codes "job")) head.Version
-    (cond (bytes_eq h (codes "marks")) head.Marks
-    (cond (bytes_eq h (codes "stations")) head.Stations
-    (cond (bytes_eq h (codes "bore")) head.Bore
-    (cond (bytes_eq h (codes "task")) head.Task
-    (cond (bytes_eq h (codes "start")) head.Start
-    (cond (bytes_eq h (codes "lookahead")) head.Lookahead head.Other)))))))))
+    cond (bytes_eq h (codes "leg")) (Some head.Leg)
+    (cond (bytes_eq h (codes "label")) (Some head.Label)
+    (cond (bytes_eq h (codes "zone")) (Some head.Zone)
+    (cond (bytes_eq h (codes "job")) (Some head.Version)
+    (cond (bytes_eq h (codes "marks")) (Some head.Marks)
+    (cond (bytes_eq h (codes "stations")) (Some head.Stations)
+    (cond (bytes_eq h (codes "bore")) (Some head.Bore)
+    (cond (bytes_eq h (codes "task")) (Some head.Task)
+    (cond (bytes_eq h (codes "start")) (Some head.Start)
+    (cond (bytes_eq h (codes "lookahead")) (Some head.Lookahead) None)))))))))
 
 -- a line of one number, two or three, or of one form
 abbrev pub one : (ℕ → Row) → Parts → Option Row
@@ -132,7 +133,6 @@ row_in head.Zone ps = three (λ a b m. zone (record { first = a; last = b; mark 
 row_in head.Task ps = single task ps
 row_in head.Start ps = one start ps
 row_in head.Lookahead ps = one lookahead ps
-row_in head.Other ps = None
 
 abbrev pub known : Option Row → Result Row Fault
 known None = Err fault.Unknown
@@ -140,7 +140,7 @@ known (Some r) = Ok r
 
 abbrev pub formed : Option Tree → Result Row Fault
 formed None = Err (fault.Form Shape)
-formed (Some f) = known (row_in (head_of f.head) f.parts)
+formed (Some f) = known (option_and_then (λ h. row_in h f.parts) (head_of f.head))
 
 -- the first three questions of a line: its bytes, its form, its head and parts
 abbrev pub asked : List ℕ → Result Row Fault

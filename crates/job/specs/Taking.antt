@@ -1,6 +1,6 @@
 -- The questions of a line after its form's, and what the line makes of the job.
 use Rattle.std.specs.Prelude.{ℕ, suc, ◌-◌, ◌^◌, Bool, cond, ◌&&◌, List, [], ◌∷◌, ◌++◌, replicate, Some, None, Ok, Err, Option, Result, ◌==◌, nat_le, nat_lt, slice_set}
-use Rattle.chart.specs.Limits.{among, leg_sound}
+use Rattle.chart.specs.Limits.{among, leg_sound, spacing_sound}
 use Rattle.chart.specs.declared.leg.Leg.{Leg}
 use Rattle.chart.specs.declared.leg.Zone.{Zone}
 use Rattle.ltlf.specs.declared.operator.Operator.{Operator}
@@ -120,7 +120,7 @@ taken d (leg l) =
     (goes at.Legs (with_chart (with_leg l d.job.chart) d.job))))
 taken d (boring n dn up) =
     ask (rank d.place == 2) fault.OutOfPlace
-    (ask (among 1 256 n && (among 1 1000 dn && among 1 1000 up)) fault.OutOfRange
+    (ask (spacing_sound n dn up) fault.OutOfRange
     (goes at.Zones (with_chart (bore n dn up []) d.job)))
 taken d (zone z) =
     ask (rank d.place == 5) fault.OutOfPlace

@@ -1,11 +1,10 @@
 ghost use Rattle.std.specs.Prelude.{◌≡◌};
 ghost use Rattle.form.specs.Forms.{bytes_of};
-ghost use Rattle.form.specs.Putting.{Puts};
+ghost use Rattle.form.specs.Putting.{Puts, Wrote};
 ghost use Rattle.job.specs.Calls.{call_number, call_tree, call_bytes, call_in, Calls, CallsOnce};
 
-use crate::line::same;
 use crate::split::split_line;
-use form::{Part, Parts, put_byte, put_form};
+use form::{Form, Part, Parts, Writer};
 
 // What a run is asked for by a line after the job's text.
 #[derive(Clone, Copy, PartialEq, Eq, Debug)]
@@ -20,30 +19,28 @@ pub enum Call {
 #[derive(Clone, Copy, PartialEq, Eq, Debug)]
 pub enum CallFault {
     // the text does not begin with a call and a line feed
-    NotACall,
+    NotACall = 4,
 }
 
 impl CallFault {
-    // The number that a refusal is reported by.
+    // The number that a refusal is reported by. A `From` for `u8` would be this cast too, under a name that says less.
     pub fn number(self) -> u8
         ensures { result ≡ call_number self }
     {
-        match self {
-            CallFault::NotACall => 4,
-        }
+        self as u8
     }
 }
 
 // The call that a form's head and parts are.
-fn call_of(head: &[u8], parts: Parts) -> Option<Call>
-    ensures { result ≡ call_in head.now parts.entry }
+fn call_of(form: Form) -> Option<Call>
+    ensures { result ≡ call_in form.entry.head.now form.entry.parts }
 {
-    match parts {
-        Parts::Zero if same(head, b"decide") => Some(Call::Decide),
-        Parts::Zero if same(head, b"move") => Some(Call::Move),
-        Parts::Two(Part::Number(leg), Part::Number(seconds)) if same(head, b"drag") => Some(
-            Call::Drag(leg, seconds),
-        ),
+    match (form.head, form.parts) {
+        (b"decide", Parts::Zero) => Some(Call::Decide),
+        (b"move", Parts::Zero) => Some(Call::Move),
+        (b"drag", Parts::Two(Part::Number(leg), Part::Number(seconds))) => {
+            Some(Call::Drag(leg, seconds))
+        }
         _ => None,
     }
 }
@@ -62,27 +59,30 @@ pub fn next_call<'t>(text: &'t [u8]) -> Result<Option<(Call, &'t [u8])>, CallFau
     let Ok(form) = form::read(line) else {
         return Err(CallFault::NotACall);
     };
-    let Some(call) = call_of(form.head, form.parts) else {
+    let Some(call) = call_of(form) else {
         return Err(CallFault::NotACall);
     };
     Ok(Some((call, rest)))
 }
 
 // Writes a call without its line feed.
-fn put_call_form(memory: &mut [u8], at: usize, call: Call) -> usize
-    ensures { Puts at (bytes_of (call_tree call)) memory.old result memory.new }
+fn put_call_form(writer: &mut Writer, call: Call)
+    ensures { Wrote (bytes_of (call_tree call)) writer.old writer.new }
 {
     match call {
-        Call::Decide => put_form(memory, at, b"decide", &[]),
-        Call::Move => put_form(memory, at, b"move", &[]),
-        Call::Drag(leg, seconds) => put_form(memory, at, b"drag", &[leg, seconds]),
+        Call::Decide => writer.put_form(b"decide", &[]),
+        Call::Move => writer.put_form(b"move", &[]),
+        Call::Drag(leg, seconds) => writer.put_form(b"drag", &[leg, seconds]),
     }
 }
 
-// Writes a call and its line feed into memory from a place on, as much as fits, and gives the place after all of it.
+// Writes a call and its line feed, for a caller without a writer: into memory from a place on, as much as fits; gives the
+// place after all of it.
 pub fn put_call(memory: &mut [u8], at: usize, call: Call) -> usize
     ensures { Puts at (call_bytes call) memory.old result memory.new }
 {
-    let place = put_call_form(memory, at, call);
-    put_byte(memory, place, b'\n')
+    let mut writer = Writer::new(memory, at);
+    put_call_form(&mut writer, call);
+    writer.put_byte(b'\n');
+    writer.place()
 }

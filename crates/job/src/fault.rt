@@ -2,6 +2,8 @@ ghost use Rattle.std.specs.Prelude.{◌≡◌};
 ghost use Rattle.job.specs.Faults.{fault_number};
 ghost use Rattle.job.specs.declared.fault.Fault.TheVariants.{Form as of_form, Task as of_task};
 
+use std::fmt;
+
 // Why a line of a job text is refused, or the whole text.
 #[derive(Clone, Copy, PartialEq, Eq, Debug)]
 pub enum Fault {
@@ -45,7 +47,7 @@ impl From<taskform::Fault> for Fault {
 }
 
 impl Fault {
-    // The number that a refusal is reported by.
+    // The number that a refusal is reported by: a match, since a fault of a lower crate has its own.
     pub fn number(self) -> u8
         ensures { result ≡ fault_number self }
     {
@@ -58,5 +60,12 @@ impl Fault {
             Fault::Task(fault) => fault.number(),
             Fault::TooMany => 9,
         }
+    }
+}
+
+impl fmt::Display for Refused {
+    fn fmt<W: fmt::Write>(&self, f: &mut fmt::Formatter<W>) -> fmt::Result {
+        let number = self.fault.number();
+        write!(f, "(refused {number} {})", self.line)
     }
 }

@@ -2,6 +2,7 @@
 #![tactic(auto)]
 
 pub mod call;
+mod draft;
 pub mod fault;
 mod line;
 pub mod place;

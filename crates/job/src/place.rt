@@ -1,5 +1,5 @@
 // Which line may come next in a job text.
-#[derive(Clone, Copy)]
+#[derive(Clone, Copy, PartialEq, Eq, Debug)]
 pub enum Place {
     Version,
     Marks,
@@ -13,12 +13,4 @@ pub enum Place {
     Start,
     Lookahead,
     Done,
-}
-
-// Which chart a record holds.
-#[derive(Clone, Copy)]
-pub enum Kind {
-    Unset,
-    Table,
-    Bore,
 }

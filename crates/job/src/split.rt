@@ -5,10 +5,6 @@ ghost use Rattle.job.specs.Texts.{Unbroken};
 pub(crate) fn split_line<'t>(text: &'t [u8]) -> Option<(&'t [u8], &'t [u8])>
     ensures { MatchOption result (Unbroken text.now) (λ p. (text.now ≡ p.0.now ++ 10 ∷ p.1.now) × Unbroken p.0.now) }
 {
-    for (i, b) in text.iter().enumerate() {
-        if *b == b'\n' {
-            return Some((&text[0..i], &text[i + 1..]));
-        }
-    }
-    None
+    let end = text.iter().position(|b| *b == b'\n')?;
+    Some((&text[..end], &text[end + 1..]))
 }

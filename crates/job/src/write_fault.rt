@@ -5,19 +5,16 @@ ghost use Rattle.job.specs.Write.{write_number};
 #[derive(Clone, Copy, PartialEq, Eq, Debug)]
 pub enum WriteFault {
     // the record holds no job
-    Empty,
+    Empty = 5,
     // the memory is shorter than the job's text
-    TooShort,
+    TooShort = 13,
 }
 
 impl WriteFault {
-    // The number that a refusal is reported by.
+    // The number that a refusal is reported by. A `From` for `u8` would be this cast too, under a name that says less.
     pub fn number(self) -> u8
         ensures { result ≡ write_number self }
     {
-        match self {
-            WriteFault::Empty => 5,
-            WriteFault::TooShort => 13,
-        }
+        self as u8
     }
 }

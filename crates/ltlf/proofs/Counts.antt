@@ -1,5 +1,5 @@
 -- The temporal operators of a formula, and its bits of the end forecast, from its list of operators.
-use Rattle.std.proofs.Common.{◌≡◌, ℕ, ◌+◌, ◌^◌, ◌<◌, ◌≤◌, Bool, true, false, List, [], ◌∷◌, ◌++◌, length, drop, Some, sym, refl, ap, ◌∙◌, append_assoc, arith, pow_mono}
+use Rattle.std.proofs.Common.{◌≡◌, ℕ, ◌+◌, ◌^◌, ◌<◌, ◌≤◌, Bool, true, false, List, [], ◌∷◌, ◌++◌, length, Some, sym, refl, ap, ◌∙◌, append_assoc, arith, pow_mono}
 use Rattle.ltlf.specs.Ltlf.{Ltlf}
 use Rattle.ltlf.specs.Bits.{number}
 use Rattle.ltlf.specs.Forecasts.{temporal, end_bits, ending}
@@ -10,9 +10,8 @@ use Rattle.ltlf.specs.Prefix.{formula, temporals}
 use Rattle.ltlf.specs.Grammar.{Writes, is_true, is_mark, is_not, is_and, is_or, is_next, is_weak, is_until, is_eventually, is_always}
 use Rattle.ltlf.proofs.Packs.{number_lt}
 use Rattle.ltlf.proofs.Reading.{reads_grammar}
-use Rattle.ltlf.proofs.Suffixes.{temporals_drop}
 
-temporals_append : (os ps : List Operator) → temporals (os ++ ps) ≡ temporals os + temporals ps
+pub temporals_append : (os ps : List Operator) → temporals (os ++ ps) ≡ temporals os + temporals ps
 temporals_append [] ps = omega arith
 temporals_append (o ∷ os) ps = omega (arith, temporals_append os ps)
 
@@ -87,11 +86,10 @@ ends_length [] = refl
 ends_length (o ∷ os) = omega (arith, bit_length o (ends_of os) (temporals os) (ends_length os))
 
 -- with at most six temporal operators the number stays below 64
-pub ends_small : (os : List Operator) (i : ℕ) → temporals os ≤ 6 → number (ends_of (drop i os)) < 64
-ends_small os i h =
-    let few : temporals (drop i os) ≤ 6 = omega (arith, temporals_drop os i) in
-    let low : 2 ^ temporals (drop i os) ≤ 2 ^ 6 = pow_mono few in
-    omega (arith, number_lt (ends_of (drop i os)) (temporals (drop i os)) (ends_length (drop i os)), low)
+pub ends_small : (os : List Operator) → temporals os ≤ 6 → number (ends_of os) < 64
+ends_small os h =
+    let low : 2 ^ temporals os ≤ 2 ^ 6 = pow_mono h in
+    omega (arith, number_lt (ends_of os) (temporals os) (ends_length os), low)
 
 -- the bit of an operator that is no weak, by whether it is temporal
 pub end_temporal : (o : Operator) → (o ≡ Weak → ⊥) → is_temporal o ≡ true → end_bit o ≡ false ∷ []
@@ -105,15 +103,3 @@ end_temporal Weak n e = absurd (n refl)
 end_temporal Until n e = refl
 end_temporal Eventually n e = refl
 end_temporal Always n e = refl
-
-pub end_none : (o : Operator) → is_temporal o ≡ false → end_bit o ≡ []
-end_none True e = refl
-end_none (Mark m) e = refl
-end_none Not e = refl
-end_none And e = refl
-end_none Or e = refl
-end_none Next e = cc
-end_none Weak e = cc
-end_none Until e = cc
-end_none Eventually e = cc
-end_none Always e = cc

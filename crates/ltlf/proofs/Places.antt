@@ -1,23 +1,10 @@
 -- The place of a state in a list of states, and what meeting a state does to the list.
-use Rattle.std.proofs.Common.{◌≡◌, ℕ, zero, suc, ◌+◌, ◌<◌, ◌≤◌, Bool, true, false, cond, eqb, ltb, List, [], ◌∷◌, ◌++◌, length, get_or, take, set, sym, refl, ap, ◌∙◌, inl, inr, append_assoc, arith, length-append, length-take, get_or-take}
+use Rattle.std.proofs.Common.{◌≡◌, ℕ, suc, ◌+◌, ◌<◌, ◌≤◌, Bool, true, false, cond, eqb, ltb, List, [], ◌∷◌, ◌++◌, length, get_or, take, set, sym, refl, ap, ◌∙◌, inl, inr, append_assoc, arith, length-append, length-take}
 use Rattle.std.proofs.lemmas.List.{take_more_set, append-nil, get_or_append_left, get_or_push}
-use Rattle.std.proofs.lemmas.Bool.{eq-eqb, ne_eqb, eqb-true, le-ltb, ltb-true, ltb-false, cases_lt, cond-true, cond-false, cond_both}
+use Rattle.std.proofs.lemmas.Bool.{eq-eqb, eqb-true, le-ltb, ltb-true, ltb-false, cases_lt, cond-true, cond-false, cond_both}
 use Rattle.ltlf.specs.Numbering.{place, meet}
 
--- the place is the first index that holds the state, or the length
-pub place_found : (s : ℕ) (xs : List ℕ) (i : ℕ) → i < length xs → ((k : ℕ) → k < i → get_or xs k 0 ≡ s → ⊥) → get_or xs i 0 ≡ s → i ≡ place s xs
-place_found s [] i h no_earlier here = let z : ⊥ = omega arith in elim z [ ]
-place_found s (x ∷ xs) zero h no_earlier here = sym (cond-true (eqb x s) 0 (suc (place s xs)) (eq-eqb x s here))
-place_found s (x ∷ xs) (suc i) h no_earlier here =
-    ap suc (place_found s xs i (omega arith) (λ k l. no_earlier (suc k) (omega arith)) here)
-    ∙ sym (cond-false (eqb x s) 0 (suc (place s xs)) (ne_eqb x s (no_earlier 0 (omega arith))))
-
-pub place_none : (s : ℕ) (xs : List ℕ) → ((k : ℕ) → k < length xs → get_or xs k 0 ≡ s → ⊥) → length xs ≡ place s xs
-place_none s [] nowhere = refl
-place_none s (x ∷ xs) nowhere =
-    ap suc (place_none s xs (λ k l. nowhere (suc k) (omega arith)))
-    ∙ sym (cond-false (eqb x s) 0 (suc (place s xs)) (ne_eqb x s (nowhere 0 (omega arith))))
-
+-- the place is at most the length
 cond_le : (b : Bool) (m n : ℕ) → m ≤ n → cond b 0 (suc m) ≤ suc n
 cond_le true m n h = omega arith
 cond_le false m n h = omega arith
@@ -41,25 +28,12 @@ module _ (s n : ℕ) (xs : List ℕ) (fits : n ≤ length xs) where
   pub front_length : length (take n xs) ≡ n
   front_length = simp length-take (omega arith)
 
-  pub front_found : (i : ℕ) → i < n → ((k : ℕ) → k < i → get_or xs k 0 ≡ s → ⊥) → get_or xs i 0 ≡ s → i ≡ place s (take n xs)
-  front_found i h no_earlier here =
-      place_found s (take n xs) i (omega (arith, front_length))
-      (λ k l e. no_earlier k l (sym (get_or-take n xs k 0 (omega arith)) ∙ e))
-      (get_or-take n xs i 0 h ∙ here)
-
-  pub front_none : ((k : ℕ) → k < n → get_or xs k 0 ≡ s → ⊥) → n ≡ place s (take n xs)
-  front_none nowhere =
-      sym front_length ∙ place_none s (take n xs) (λ k l e. nowhere k (omega (arith, front_length)) (sym (get_or-take n xs k 0 (omega (arith, front_length))) ∙ e))
-
   -- meeting a new one
   meet_fresh : n ≡ place s (take n xs) → meet (take n xs) s ≡ take n xs ++ s ∷ []
   meet_fresh h = cond-false (ltb (place s (take n xs)) (length (take n xs))) (take n xs) (take n xs ++ s ∷ []) (le-ltb _ _ (omega (arith, front_length)))
 
   pub meet_new : n < length xs → n ≡ place s (take n xs) → take (n + 1) (set xs n s) ≡ meet (take n xs) s
   meet_new h e = take_more_set xs n s h ∙ sym (meet_fresh e)
-
-  pub meet_long : n ≡ place s (take n xs) → length (meet (take n xs) s) ≡ n + 1
-  meet_long e = ap length (meet_fresh e) ∙ (length-append (take n xs) (s ∷ []) ∙ omega (arith, front_length))
 
 -- a list that begins with another: lengths, elements and places
 pub record Begins (ss ts : List ℕ) : Type 0 where

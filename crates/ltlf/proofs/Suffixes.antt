@@ -1,12 +1,11 @@
 -- The formulas that the last operators of a list make, one operator more at a time.
-use Rattle.std.proofs.Common.{◌≡◌, ℕ, zero, suc, ◌+◌, ◌-◌, ◌<◌, ◌≤◌, true, cond, eqb, List, [], ◌∷◌, length, get_or, drop, is_some, Some, None, Option, sym, refl, ap, ◌∙◌, arith}
-use Rattle.std.proofs.lemmas.List.{drop_more}
+use Rattle.std.proofs.Common.{◌≡◌, ℕ, suc, ◌+◌, ◌<◌, ◌≤◌, true, eqb, List, [], ◌∷◌, ◌++◌, length, is_some, Some, None, Option, sym, refl, ap, ◌∙◌, arith}
 use Rattle.std.proofs.lemmas.Bool.{ne_eqb}
 use Rattle.ltlf.specs.Ltlf.{Ltlf}
 use Rattle.ltlf.specs.declared.operator.Operator.{Operator}
 use Rattle.ltlf.specs.declared.operator.Operator.TheVariants.{True, Mark, Not, And, Or, Next, Weak, Until, Eventually, Always}
-use Rattle.ltlf.specs.Operators.{operands, is_temporal}
-use Rattle.ltlf.specs.Prefix.{over, over_two, made, made_of, formulas, only, or_top, formula, temporals, meaning}
+use Rattle.ltlf.specs.Operators.{operands}
+use Rattle.ltlf.specs.Prefix.{over, over_two, made, made_of, formulas, only, or_top, formula, meaning}
 
 -- an operator that has its operands makes one formula of them; one that lacks some makes none
 pub record Made (o : Operator) (fs : List Ltlf) : Type 0 where
@@ -58,34 +57,15 @@ made_short Eventually fs h = over_none _ fs h
 made_short Always fs h = over_none _ fs h
 
 -- where the last operators of a list make no formulas, the whole list makes none
-pub none_from : (os : List Operator) (i : ℕ) → formulas (drop i os) ≡ None → formulas os ≡ None
-none_from os zero e = e
-none_from [] (suc i) e = e
-none_from (o ∷ os) (suc i) e = ap (made_of o) (none_from os i e)
-
--- the first of the operators from i - 1 on, and the formulas that they make
-module _ (os : List Operator) (i : ℕ) (some : 0 < i) (fits : i ≤ length os) (o : Operator) (o_is : get_or os (i - 1) True ≡ o) where
-  pub operators_from : drop (i - 1) os ≡ o ∷ drop i os
-  operators_from =
-      let e : i - 1 + 1 ≡ i = omega arith in
-      drop_more os (i - 1) True (omega arith) ∙ (ap (λ x. x ∷ drop (i - 1 + 1) os) o_is ∙ ap (λ k. o ∷ drop k os) e)
-
-  pub formulas_from : (fs : List Ltlf) → formulas (drop i os) ≡ Some fs → formulas (drop (i - 1) os) ≡ made o fs
-  formulas_from fs e = ap formulas operators_from ∙ ap (made_of o) e
-
-  pub temporals_from : temporals (drop (i - 1) os) ≡ cond (is_temporal o) 1 0 + temporals (drop i os)
-  temporals_from = ap temporals operators_from
+pub none_after : (os ps : List Operator) → formulas ps ≡ None → formulas (os ++ ps) ≡ None
+none_after [] ps e = e
+none_after (o ∷ os) ps e = ap (made_of o) (none_after os ps e)
 
 -- exactly one formula
 pub only_one : (fs : List Ltlf) → is_some (only (Some fs)) ≡ eqb (length fs) 1
 only_one [] = refl
 only_one (f ∷ []) = refl
 only_one (f ∷ (g ∷ fs)) = sym (ne_eqb _ _ (λ e. omega (arith, e)))
-
-pub temporals_drop : (os : List Operator) (i : ℕ) → temporals (drop i os) ≤ temporals os
-temporals_drop os zero = omega arith
-temporals_drop [] (suc i) = omega arith
-temporals_drop (o ∷ os) (suc i) = omega (arith, temporals_drop os i)
 
 -- a list that is one formula, and what it makes from an operator on
 some_known : (o : Option Ltlf) → is_some o ≡ true → (f : Ltlf) × (o ≡ Some f)
@@ -107,8 +87,8 @@ pub formulas_known : (os : List Operator) → is_some (formula os) ≡ true → 
 formulas_known os e = only_known (formulas os) (meaning os) (formula_known os e)
 
 -- each of its ends makes formulas
-pub end_known : (os : List Operator) (fs : List Ltlf) (i : ℕ) → formulas os ≡ Some fs → (gs : List Ltlf) × (formulas (drop i os) ≡ Some gs)
-end_known os fs i e = option_known (formulas (drop i os)) (λ n. let z : ◌≡◌ {A = Option (List Ltlf)} None (Some fs) = sym (none_from os i n) ∙ e in clash z)
+pub end_known : (os ps : List Operator) (fs : List Ltlf) → formulas (os ++ ps) ≡ Some fs → (gs : List Ltlf) × (formulas ps ≡ Some gs)
+end_known os ps fs e = option_known (formulas ps) (λ n. let z : ◌≡◌ {A = Option (List Ltlf)} None (Some fs) = sym (none_after os ps n) ∙ e in clash z)
   where
     clash : ◌≡◌ {A = Option (List Ltlf)} None (Some fs) → ⊥
     clash z = let y : ◌≡◌ {A = ℕ} 0 1 = cc in omega arith

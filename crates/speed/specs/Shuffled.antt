@@ -36,14 +36,14 @@ below k u h = lower (k == 0)
 
 pair_is : {a v : ℕ} {w : Unit} (b : Bool) → cond {A = Option (ℕ × Unit)} b (Some (a, tt)) None ≡ Some (v, w) → (b ≡ true) × (a ≡ v)
 pair_is {a} {v} {w} true e = let p : ◌≡◌ {A = ℕ × Unit} (a, tt) (v, w) = cc in (refl, ap (λ (t : ℕ × Unit). t.0) p)
-pair_is false e = let z : ◌≡◌ {A = ℕ} 0 1 = cc in let none : ⊥ = omega arith in absurd none
+pair_is false e = absurd cc
 
 pub shuffled_closed : Closed shuffled
 shuffled_closed u k v w h l e = let p = pair_is (nat_lt u 16384 && nat_lt k 4) e in omega (arith, below k u h, p.1)
 
 nested : (b : Bool) (x : Option (ℕ × Unit)) {v : ℕ} {w : Unit} → cond b x None ≡ Some (v, w) → x ≡ Some (v, w)
 nested true x e = e
-nested false x e = let z : ◌≡◌ {A = ℕ} 0 1 = cc in let none : ⊥ = omega arith in absurd none
+nested false x e = cc
 
 pub shuffled_reverses : Reverses shuffled shuffled_back
 shuffled_reverses v k u w h l e =

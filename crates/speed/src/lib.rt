@@ -15,7 +15,8 @@ pub use reading::jackdawwire_read;
 pub use shuffled::jackdawwire_reach;
 use task::Task;
 
-// The operator of a code: 1 to 8 for not, and, or, next, weak, until, eventually and always, 16 + m for mark m, others for true.
+// The operator of a code, by which C names it: 1 to 8 for not, and, or, next, weak, until, eventually and always, 16 + m
+// for mark m, others for true.
 fn operator_of(code: u8) -> Operator
     ensures { result ≡ operator_at code }
 {
@@ -33,20 +34,18 @@ fn operator_of(code: u8) -> Operator
     }
 }
 
-// The operators of the codes, with others past them.
+// The operators of the codes, with true past them: an `ArrayVec` would ask for a default operator.
 fn operators_of(codes: &[u8]) -> [Operator; 80]
     requires { length codes.now ≤ 80 }
     ensures same { take (length codes.now) result ≡ map operator_at codes.now }
     ensures whole { length result ≡ 80 }
 {
-    let mut operators = [Operator::True; 80];
-    for (i, code) in codes.iter().enumerate() {
-        operators[i] = operator_of(*code);
-    }
-    operators
+    let mut padded = [0; 80];
+    padded[..codes.len()].copy_from_slice(codes);
+    padded.map(operator_of)
 }
 
-// The number of states of the task, or 128 and the number of its refusal.
+// The number of states of the task, or 128 and the number of its refusal: one byte, for C.
 fn told(marks: u8, operators: &[Operator]) -> u8
     ensures { result ≡ told_of (task_fault marks operators.now) (length (states (meaning operators.now) (2 ^ marks))) }
 {

@@ -5,14 +5,13 @@ ghost use Rattle.speed.specs.Reading.{number_of};
 use job::Job;
 use std::alloc::Global;
 
-// The number that a job's text is refused with, or 0; 255 for want of memory.
+// The number that a job's text is refused with, or 0; 255 for want of memory. One byte, for C.
 pub fn jackdawwire_read(heap: Global, text: &[u8]) -> u8
     ensures { (result ≡ number_of (reading text.now)) ⊎ (result ≡ 255) }
 {
-    let Ok(job) = Job::new(heap) else {
+    let Ok(mut job) = Job::new(heap) else {
         return 255;
     };
-    let mut job = job;
     match job.read(text) {
         Ok(_) => 0,
         Err(refused) => refused.fault.number(),

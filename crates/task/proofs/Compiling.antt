@@ -1,5 +1,5 @@
 -- What a task is asked, and what its tables answer.
-use Rattle.std.proofs.Common.{◌≡◌, ℕ, ◌+◌, ◌^◌, ◌<◌, ◌≤◌, Bool, true, false, cond, ◌&&◌, ltb, leb, List, ◌∷◌, length, get_or, take, is_some, Some, None, Decides, Option, sym, refl, ap, ◌∙◌, subst, arith, MatchOption}
+use Rattle.std.proofs.Common.{◌≡◌, ℕ, ◌+◌, ◌^◌, ◌<◌, ◌≤◌, Bool, true, false, cond, ◌&&◌, ltb, leb, List, [], ◌∷◌, length, get_or, take, get_or-take, length-take-le, is_some, Some, None, Decides, Option, sym, refl, ap, ◌∙◌, subst, arith, MatchOption}
 use Rattle.std.proofs.lemmas.List.{take_more, take_all}
 use Rattle.std.proofs.ByRecursion.{All-push, All-get_or}
 use Rattle.std.proofs.lemmas.Bool.{le-leb, lt-leb, lt-ltb, ltb-true, and_parts, cond-true}
@@ -23,7 +23,7 @@ use Rattle.task.specs.declared.numbered.Numbered.{Numbered}
 use Rattle.task.specs.declared.compiled.Task.{Task}
 use Rattle.task.specs.Faults.{ask, formula_fault, task_fault}
 use Rattle.task.specs.declared.tables.Tables.{Tables}
-use Rattle.task.specs.Acts.{ActsAll}
+use Rattle.task.specs.Acts.{Acts, ActsAll}
 use Rattle.task.specs.StateNet.{Inside}
 use Rattle.task.specs.Tables.{Tabulates}
 use Rattle.task.specs.Listed.{listed}
@@ -69,16 +69,30 @@ checked_temporal f = omega (arith, temporals_formula (written f) (formula_of f) 
 pub states_count : (t : Task) → length (states_of t) ≡ t.tables.numbered.count
 states_count t =
     let m = t.tables.numbered in
-    sym (ap length t.lists) ∙ front_length 0 m.count m.states (omega (arith, m.fits, m.whole))
+    sym (ap length t.tabulated.lists) ∙ front_length 0 m.count m.states (omega (arith, m.fits, m.whole))
 
 pub states_few : (t : Task) → length (states_of t) ≤ 64
 states_few t = omega (arith, states_count t, t.tables.numbered.fits)
 
--- what holds of every formula that the letters' tables are of holds of the checked one, at its number of letters
-pub at_letters : (f : Formula) (n : ℕ) (ls : List Letter) (P : Ltlf → ℕ → Type 0) → n ≡ 2 ^ f.marks → ActsAll (formula_of f) (2 ^ f.marks) ls
-    → ((g : Ltlf) → temporal g ≤ 6 → ActsAll g n ls → P g n) → P (formula_of f) (2 ^ f.marks)
-at_letters f n ls P e acts each =
-    subst (P (formula_of f)) e (each (formula_of f) (checked_temporal f) (subst (λ k. ActsAll (formula_of f) k ls) (sym e) acts))
+-- what was built from the letters of a checked formula
+module _ (f : Formula) (n : ℕ) (ls : List Letter) (r : Option Tables) (n_is : n ≡ 2 ^ f.marks) (fits : n ≤ length ls)
+    (acts : ActsAll (formula_of f) (2 ^ f.marks) ls)
+    (built : (g : Ltlf) → temporal g ≤ 6 → ActsAll g (length (take n ls)) (take n ls)
+    → MatchOption r (64 < length (states g (length (take n ls)))) (λ t. Tabulates g (length (take n ls)) t)) where
+  many : length (take n ls) ≡ 2 ^ f.marks
+  many = length-take-le n ls fits ∙ n_is
+
+  here : MatchOption r (64 < length (states (formula_of f) (2 ^ f.marks))) (λ t. Tabulates (formula_of f) (2 ^ f.marks) t)
+  here =
+      let P : ℕ → Type 0 = λ k. MatchOption r (64 < length (states (formula_of f) k)) (λ t. Tabulates (formula_of f) k t) in
+      subst P many (built (formula_of f) (checked_temporal f)
+      (λ a d h. subst (Acts (formula_of f) a) (sym (get_or-take n ls a d (omega (arith, many, n_is)))) (acts a d (omega (arith, many)))))
+
+  pub built_right : (t : Tables) → r ≡ Some t → Tabulates (formula_of f) (2 ^ f.marks) t
+  built_right t e = rw e at here
+
+  pub built_none : r ≡ None → 64 < length (states (formula_of f) (2 ^ f.marks))
+  built_none e = rw e at here
 
 -- the states of a formula that was checked are those of the operators that it was checked from
 pub same_states : (f : Formula) (p : ℕ) (os : List Operator) → written f ≡ os → f.marks ≡ p
@@ -147,9 +161,11 @@ not_below n letters xs a i whole h large below =
     omega (arith, All-get_or (λ x. x < n) xs i 0 h each.1)
 
 -- the numbers in the table of next states are numbers of states
-pub tables_inside : (f : Ltlf) (n : ℕ) (t : Tables) → Tabulates f n t → Inside t.numbered.count n t.next
+pub tables_inside : (f : Ltlf) (n : ℕ) (t : Tables) → Tabulates f n t → Inside n (take t.numbered.count t.next)
 tables_inside f n t right q a h =
     let m = t.numbered in
     let many : length (states f n) ≡ m.count
     = sym (ap length right.lists) ∙ front_length 0 m.count m.states (omega (arith, m.fits, m.whole)) in
-    omega (arith, right.steps q a h.0 h.1, next_known f n (omega (arith, many, m.fits)) q a (omega (arith, many, h.0)) h.1, many)
+    let rows : length (take m.count t.next) ≡ m.count = length-take-le m.count t.next (omega (arith, m.fits, t.nexts)) in
+    let same = ap (λ row. get_or row a 0) (get_or-take m.count t.next q [] (omega (arith, h.0, rows))) in
+    omega (arith, same, rows, right.steps q a (omega (arith, h.0, rows)) h.1, next_known f n (omega (arith, many, m.fits)) q a (omega (arith, many, h.0, rows)) h.1, many)

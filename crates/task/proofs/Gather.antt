@@ -1,5 +1,5 @@
 -- The bits of a letter's tables, and of the state that is gathered from them.
-use Rattle.std.proofs.Common.{◌≡◌, ℕ, zero, suc, ◌+◌, ◌-◌, ◌*◌, ◌/◌, ◌%◌, ◌^◌, ◌<◌, ◌≤◌, Bool, true, false, cond, not, ◌&&◌, ◌||◌, eqb, ltb, ◌≢◌, List, [], ◌∷◌, map, length, get_or, set, sym, refl, ap, ◌∙◌, arith, get_or-set_other, get_or-set_same, pow_mono, below_more}
+use Rattle.std.proofs.Common.{◌≡◌, ℕ, zero, suc, ◌+◌, ◌-◌, ◌*◌, ◌/◌, ◌%◌, ◌^◌, ◌<◌, ◌≤◌, Bool, true, false, cond, not, ◌&&◌, ◌||◌, eqb, ltb, List, [], ◌∷◌, map, length, get_or, sym, refl, ap, ◌∙◌, arith, pow_mono}
 use lib.Bits.{bit_and, bit_or}
 use Rattle.std.proofs.lemmas.Nat.{shr-shr, and_le_l}
 use Rattle.std.proofs.lemmas.List.{drop_more, drop_all}
@@ -128,12 +128,6 @@ module _ (es : List ℕ) (six : length es ≡ 6) where
       four_eqb (bit w (get_or es 2 0)) (bit w (get_or es 3 0)) (bit w (get_or es 4 0)) (bit w (get_or es 5 0)) j h
       ∙ (ap (λ x. eqb x j) (past_two (bit w (get_or es 0 0)) (bit w (get_or es 1 0)) rest)
       ∙ ap (λ xs. eqb (number (map (bit w) xs) / 4) j) (sym spelled))
-
--- one more element, for what is said of each
-pub set_more : (P : ℕ → ℕ → Type 0) (xs : List ℕ) (n x : ℕ) → n < length xs
-    → ((k : ℕ) → k < n → P k (get_or xs k 0)) → P n x → (k : ℕ) → k < n + 1 → P k (get_or (set xs n x) k 0)
-set_more P xs n x h all here =
-    below_more _ _ (λ k l. let ne : k ≢ n = omega arith in rw get_or-set_other (all k l)) (rw get_or-set_same here)
 
 -- a bit of a number, from its nibble
 fifteen : (k : ℕ) → k < 4 → bit k 15 ≡ true

@@ -1,4 +1,5 @@
-pub mod Stack
+pub mod Filled
+pub mod Backwards
 pub mod Counting
 pub mod Evaluated
 pub mod Gather
@@ -7,4 +8,3 @@ pub mod Places
 pub mod Tabulating
 pub mod Compiling
 pub mod Stating
-pub mod Seeding

@@ -1,6 +1,8 @@
 -- Places among the states that have a number, and what meeting one more does.
-use Rattle.std.proofs.Common.{◌≡◌, ℕ, zero, suc, ◌+◌, ◌<◌, ◌≤◌, eqb, ltb, List, [], ◌∷◌, ◌++◌, length, get_or, take, set, sym, ◌∙◌, subst, inl, inr, arith, length-append, length-set, get_or-take}
-use Rattle.std.proofs.lemmas.Bool.{eq-eqb, cases_lt, cond-true, cond_both}
+use Rattle.std.proofs.Common.{◌≡◌, ℕ, zero, suc, ◌+◌, ◌<◌, ◌≤◌, eqb, ltb, List, [], ◌∷◌, ◌++◌, length, get_or, take, set, sym, ap, ◌∙◌, subst, inl, inr, arith, length-append, length-set, get_or-take, refl, cond, Some, None, Option, MatchOption}
+use Rattle.std.specs.List.{position_or_len}
+use Rattle.std.proofs.lemmas.List.Recursion.{is_position_or_len}
+use Rattle.std.proofs.lemmas.Bool.{eq-eqb, cases_lt, ltb-true, ltb-false, cond-true, cond_both}
 use Rattle.ltlf.specs.Numbering.{place, meet}
 use Rattle.ltlf.proofs.Places.{OwnPlaces, place_le, place_get_d, front_length, meet_own, meet_new, meet_has, meet_keeps, meet_at}
 use Rattle.task.specs.Apart.{Apart}
@@ -12,6 +14,21 @@ place_first s (x ∷ ss) zero h here = rw (cond-true (eqb x s) 0 (suc (place s s
 place_first s (x ∷ ss) (suc i) h here =
     let ih : place s ss ≤ i = place_first s ss i (omega arith) here in
     cond_both (eqb x s) 0 (suc (place s ss)) (λ k. k ≤ suc i) (λ e. omega arith) (λ e. omega arith)
+
+-- the first that is the state stands at the place
+place_is : (s : ℕ) (ss : List ℕ) → place s ss ≡ position_or_len (λ x. eqb x s) ss
+place_is s ss = is_position_or_len (place s) (λ x. eqb x s) refl (λ x xs. ap (cond (eqb x s) 0) (omega arith)) ss
+
+pub found_place : (s : ℕ) (ss : List ℕ) (r : Option ℕ)
+    → r ≡ cond (ltb (position_or_len (λ x. eqb x s) ss) (length ss)) (Some (position_or_len (λ x. eqb x s) ss)) None
+    → MatchOption r (length ss ≤ place s ss) (λ q. (q < length ss) × (q ≡ place s ss))
+found_place s ss r e =
+    let n : ℕ = position_or_len (λ x. eqb x s) ss in
+    let P : Option ℕ → Type 0 = λ o. MatchOption o (length ss ≤ place s ss) (λ q. (q < length ss) × (q ≡ place s ss)) in
+    subst P (sym e)
+    (cond_both (ltb n (length ss)) (Some n) None P
+    (λ t. (ltb-true n (length ss) t, sym (place_is s ss)))
+    (λ t. omega (arith, place_is s ss, ltb-false n (length ss) t)))
 
 meet_length : (ss : List ℕ) (t : ℕ) → length (meet ss t) ≤ length ss + 1
 meet_length ss t =
@@ -54,7 +71,3 @@ apart_meet s n xs room new apart =
     let more : n + 1 ≤ length (set xs n s) = simp length-set (omega arith) in
     own_apart (n + 1) (set xs n s) more
     (subst OwnPlaces (sym (meet_new s n xs fits room new)) (meet_own (take n xs) s (own_front n xs fits apart)))
-
--- a state whose number is not among the first n is not met yet
-pub not_met : (s n : ℕ) (xs : List ℕ) (q : ℕ) → n ≤ length xs → q ≡ place s (take n xs) → n ≤ q → n ≡ place s (take n xs)
-not_met s n xs q fits is high = omega (arith, place_le s (take n xs), front_length s n xs fits)

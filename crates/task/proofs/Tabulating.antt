@@ -1,5 +1,5 @@
 -- Tables that are filled while states are met: letter by letter, and then state by state.
-use Rattle.std.proofs.Common.{◌≡◌, ℕ, ◌+◌, ◌*◌, ◌<◌, ◌≤◌, ◌≢◌, List, [], length, get_or, set, sym, ap, ◌∙◌, subst, inl, inr, arith, get_or-set_other, get_or-set_same, below_more}
+use Rattle.std.proofs.Common.{◌≡◌, ℕ, ◌+◌, ◌<◌, ◌≤◌, ◌≢◌, List, [], length, get_or, set, sym, ap, ◌∙◌, subst, inl, inr, arith, get_or-set_other, get_or-set_same, below_more}
 use Rattle.std.proofs.lemmas.Bool.{cases_lt}
 use Rattle.ltlf.specs.Ltlf.{Ltlf}
 use Rattle.ltlf.specs.Automaton.{first, step}
@@ -7,6 +7,7 @@ use Rattle.ltlf.specs.Numbering.{place, meet, met, states}
 use Rattle.ltlf.proofs.Places.{Begins, begins_length, begins_at, begins_place, begins_has, meet_keeps, front_length}
 use Rattle.ltlf.proofs.Meeting.{meets_begins, meets_has, once_more, followed, all_met}
 use Rattle.task.specs.Listed.{listed}
+use Rattle.task.specs.Rows.{entry}
 use Rattle.task.specs.Tables.{Tabled, Tabulates}
 use Rattle.task.specs.declared.tables.Tables.{Tables}
 use Rattle.task.proofs.Places.{meet_place}
@@ -26,33 +27,22 @@ tabled_more g a s v ss ms ts h k t is number e kept here = record {
       (here ∙ (number ∙ (sym (meet_place ms s) ∙ (ap (place s) (sym e) ∙ ap (λ x. place x ts) is))));
 }
 
-module _ (g : ℕ → ℕ) (a s v : ℕ) (ss ms ts xs : List ℕ) (is : s ≡ g a) (number : v ≡ place s ms) (e : ts ≡ meet ms s) where
-  pub first_more : a < length xs → Tabled g a ss ms (λ b. get_or xs b 0) → Tabled g (a + 1) ss ts (λ b. get_or (set xs a v) b 0)
-  first_more h t =
-      tabled_more g a s v ss ms ts (λ b. get_or xs b 0) (λ b. get_or (set xs a v) b 0) t is number e
-      (λ b l. let ne : b ≢ a = omega arith in get_or-set_other xs a b v 0 ne)
-      (get_or-set_same xs a v 0 h)
-
-  pub row_more : (o : ℕ) → o + a < length xs → Tabled g a ss ms (λ b. get_or xs (o + b) 0) → Tabled g (a + 1) ss ts (λ b. get_or (set xs (o + a) v) (o + b) 0)
-  row_more o h t =
-      tabled_more g a s v ss ms ts (λ b. get_or xs (o + b) 0) (λ b. get_or (set xs (o + a) v) (o + b) 0) t is number e
-      (λ b l. let ne : o + b ≢ o + a = omega arith in get_or-set_other xs (o + a) (o + b) v 0 ne)
-      (get_or-set_same xs (o + a) v 0 h)
-
--- the rows before stay
-pub before_more : (o a v : ℕ) (xs ys : List ℕ) → ((k : ℕ) → k < o → get_or xs k 0 ≡ get_or ys k 0)
-    → (k : ℕ) → k < o → get_or (set xs (o + a) v) k 0 ≡ get_or ys k 0
-before_more o a v xs ys kept k h = let ne : k ≢ o + a = omega arith in get_or-set_other xs (o + a) k v 0 ne ∙ kept k h
+pub row_more : (g : ℕ → ℕ) (a s v : ℕ) (ss ms ts xs : List ℕ) → s ≡ g a → v ≡ place s ms → ts ≡ meet ms s → a < length xs
+    → Tabled g a ss ms (λ b. get_or xs b 0) → Tabled g (a + 1) ss ts (λ b. get_or (set xs a v) b 0)
+row_more g a s v ss ms ts xs is number e h t =
+    tabled_more g a s v ss ms ts (λ b. get_or xs b 0) (λ b. get_or (set xs a v) b 0) t is number e
+    (λ b l. let ne : b ≢ a = omega arith in get_or-set_other xs a b v 0 ne)
+    (get_or-set_same xs a v 0 h)
 
 -- state by state: the states once those numbered below q are followed, the table of the first letters, and the rows below q
-pub record Built (f : Ltlf) (n q : ℕ) (ss xs ys : List ℕ) : Type 0 where
+pub record Built (f : Ltlf) (n q : ℕ) (ss xs : List ℕ) (ys : List (List ℕ)) : Type 0 where
   pub lists : ss ≡ met f n q
   pub reached : q ≤ length ss
   pub starts : (a : ℕ) → a < n → (get_or xs a 0 ≡ place (first f a) ss) × (place (first f a) ss < length ss)
   pub steps : (p a : ℕ) → p < q → a < n
-      → (get_or ys (p * 64 + a) 0 ≡ place (step f (get_or ss p 0) a) ss) × (place (step f (get_or ss p 0) a) ss < length ss)
+      → (entry ys p a ≡ place (step f (get_or ss p 0) a) ss) × (place (step f (get_or ss p 0) a) ss < length ss)
 
-pub built_first : (f : Ltlf) (n : ℕ) (ss xs ys : List ℕ) → Tabled (first f) n [] ss (λ a. get_or xs a 0) → Built f n 0 ss xs ys
+pub built_first : (f : Ltlf) (n : ℕ) (ss xs : List ℕ) (ys : List (List ℕ)) → Tabled (first f) n [] ss (λ a. get_or xs a 0) → Built f n 0 ss xs ys
 built_first f n ss xs ys t = record {
   lists = t.lists;
   reached = omega arith;
@@ -60,26 +50,26 @@ built_first f n ss xs ys t = record {
   steps = λ p a h l. let z : ⊥ = omega arith in elim z [ ];
 }
 
-module _ (f : Ltlf) (n q : ℕ) (ss ts xs us ys zs : List ℕ) (few : n ≤ 64) (built : Built f n q ss xs ys) (known : q < length ss)
-    (t : Tabled (step f (get_or ss q 0)) n ss ts (λ a. get_or zs (q * 64 + a) 0)) (same : us ≡ xs)
-    (kept : (k : ℕ) → k < q * 64 → get_or zs k 0 ≡ get_or ys k 0) where
+module _ (f : Ltlf) (n q : ℕ) (ss ts xs us : List ℕ) (ys zs : List (List ℕ)) (built : Built f n q ss xs ys) (known : q < length ss)
+    (t : Tabled (step f (get_or ss q 0)) n ss ts (entry zs q)) (same : us ≡ xs)
+    (kept : (k : ℕ) → k < q → get_or zs k [] ≡ get_or ys k []) where
   begins : Begins ss ts
   begins = subst (Begins ss) (sym t.lists) (meets_begins (step f (get_or ss q 0)) 0 n ss (omega arith))
 
   Step : ℕ → ℕ → ℕ → Type 0
-  Step p a s = (get_or zs (p * 64 + a) 0 ≡ place (step f s a) ts) × (place (step f s a) ts < length ts)
+  Step p a s = (entry zs p a ≡ place (step f s a) ts) × (place (step f s a) ts < length ts)
 
   step_old : (p a : ℕ) → p < q → a < n → Step p a (get_or ss p 0)
   unfolding Step
   step_old p a h l =
       let at = built.steps p a h l in (
-        kept (p * 64 + a) (omega arith) ∙ (at.0 ∙ sym (begins_place ss ts begins (step f (get_or ss p 0) a) at.1)),
+        ap (λ row. get_or row a 0) (kept p h) ∙ (at.0 ∙ sym (begins_place ss ts begins (step f (get_or ss p 0) a) at.1)),
         begins_has ss ts begins (step f (get_or ss p 0) a) at.1,
       )
 
   step_new : (a : ℕ) → a < n → Step q a (get_or ss q 0)
   unfolding Step
-  step_new a l = (t.numbers a l, tabled_known (step f (get_or ss q 0)) n ss ts (λ a. get_or zs (q * 64 + a) 0) t a l)
+  step_new a l = (t.numbers a l, tabled_known (step f (get_or ss q 0)) n ss ts (entry zs q) t a l)
 
   step_each : (p a : ℕ) → p < q + 1 → a < n → Step p a (get_or ts p 0)
   step_each p a h l =

@@ -1,11 +1,7 @@
 -- What an evaluation holds.
 use Rattle.std.specs.Prelude.{ℕ, List, drop}
-use Rattle.task.specs.declared.words.Words.{Words}
+use Rattle.task.specs.declared.words.Stack.{Stack}
 
--- the words of the formulas so far
-abbrev pub held : Words → List ℕ
-held s = drop s.top s.stack
-
--- the words of the temporal operators so far
-abbrev pub told : Words → List ℕ
-told s = drop s.number s.earlier
+-- the words so far, the last one's first
+abbrev pub held : {N : ℕ} → Stack N → List ℕ
+held s = drop s.top s.words

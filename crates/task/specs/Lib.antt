@@ -4,6 +4,7 @@ pub mod Faults
 pub mod Written
 pub mod Apart
 pub mod Listed
+pub mod Rows
 pub mod Tables
 pub mod Compiled
 pub mod StateNet

@@ -1,8 +1,9 @@
 -- What the tables of an automaton mean.
-use Rattle.std.specs.Prelude.{◌≡◌, ℕ, ◌+◌, ◌*◌, ◌<◌, List, slice_index}
+use Rattle.std.specs.Prelude.{◌≡◌, ℕ, ◌<◌, List, slice_index}
 use Rattle.ltlf.specs.Ltlf.{Ltlf}
 use Rattle.ltlf.specs.Numbering.{place, meets, states, first_number, next_number}
 use Rattle.task.specs.Listed.{listed}
+use Rattle.task.specs.Rows.{entry}
 use Rattle.task.specs.declared.tables.Tables.{Tables}
 
 -- the states g 0, g 1, .. below n are met after those of ss, which gives ts, and h has their numbers there
@@ -14,4 +15,4 @@ pub record Tabled (g : ℕ → ℕ) (n : ℕ) (ss ts : List ℕ) (h : ℕ → �
 pub record Tabulates (f : Ltlf) (n : ℕ) (t : Tables) : Type 0 where
   pub lists : listed t.numbered ≡ states f n
   pub starts : (a : ℕ) → a < n → slice_index t.first a ≡ first_number f n a
-  pub steps : (q a : ℕ) → q < t.numbered.count → a < n → slice_index t.next (q * 64 + a) ≡ next_number f n q a
+  pub steps : (q a : ℕ) → q < t.numbered.count → a < n → entry t.next q a ≡ next_number f n q a

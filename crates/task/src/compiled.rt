@@ -1,8 +1,7 @@
-ghost use Rattle.std.specs.Prelude.{◌≡◌, ℕ, ◌+◌, ◌*◌, ◌^◌, ◌<◌, ◌≤◌, ◌&&◌, length, nat_le, nat_lt, slice_index};
+ghost use Rattle.std.specs.Prelude.{◌≡◌, ℕ, ◌^◌, ◌<◌, ◌≤◌, ◌&&◌, length, nat_le, nat_lt, slice_index};
 ghost use Rattle.ltlf.specs.Distance.{within};
 ghost use Rattle.ltlf.specs.Forecasts.{ending as end_forecast};
-ghost use Rattle.ltlf.specs.Numbering.{states, first_number, next_number};
-ghost use Rattle.task.specs.Listed.{listed};
+ghost use Rattle.task.specs.Tables.{Tabulates};
 ghost use Rattle.task.specs.Written.{formula_of};
 
 use crate::formula::Formula;
@@ -14,13 +13,10 @@ pub struct Task {
     formula: Formula,
     tables: Tables,
     ending: u8,
-    // by state: the least number of letters to one that accepts; the largest number stands for none
+    // by state: the least number of letters to one that accepts; the largest number stands for none, as best values are
+    // written in place
     distances: [u32; 64],
-    ghost lists: { listed tables.numbered ≡ states (formula_of formula) (2 ^ formula.marks) },
-    ghost starts: { (a : ℕ) → a < 2 ^ formula.marks
-        → slice_index tables.first a ≡ first_number (formula_of formula) (2 ^ formula.marks) a },
-    ghost steps: { (q a : ℕ) → (q < tables.numbered.count) × (a < 2 ^ formula.marks)
-        → slice_index tables.next (q * 64 + a) ≡ next_number (formula_of formula) (2 ^ formula.marks) q a },
+    ghost tabulated: { Tabulates (formula_of formula) (2 ^ formula.marks) tables },
     ghost ends: { ending ≡ end_forecast (formula_of formula) },
     ghost low: { ending < 64 },
     ghost many: { length distances ≡ 64 },

@@ -5,28 +5,22 @@ ghost use Rattle.task.specs.Faults.{fault_number};
 #[derive(Clone, Copy, PartialEq, Eq, Debug)]
 pub enum Fault {
     // the operators are not exactly one formula
-    NotAFormula,
+    NotAFormula = 4,
     // the number of marks is not from 1 to 6, or a mark is not below it
-    OutOfRange,
+    OutOfRange = 6,
     // more than 64 operators
-    TooManyOperators,
+    TooManyOperators = 7,
     // more than 6 temporal operators
-    TooManyTemporal,
+    TooManyTemporal = 8,
     // more than 64 states
-    TooManyStates,
+    TooManyStates = 10,
 }
 
 impl Fault {
-    // The number that a refusal is reported by.
+    // The number that a refusal is reported by. A `From` for `u8` would be this cast too, under a name that says less.
     pub fn number(self) -> u8
         ensures { result ≡ fault_number self }
     {
-        match self {
-            Fault::NotAFormula => 4,
-            Fault::OutOfRange => 6,
-            Fault::TooManyOperators => 7,
-            Fault::TooManyTemporal => 8,
-            Fault::TooManyStates => 10,
-        }
+        self as u8
     }
 }

@@ -3,7 +3,8 @@ ghost use Rattle.ltlf.specs.Prefix.{formula, marks_below, temporals as count_tem
 
 use ltlf::operator::Operator;
 
-// A formula within the limits: its first `count` operators, in prefix order.
+// A formula within the limits: its first `count` operators, in prefix order. They stand in an array with their count,
+// since a task takes no heap and is `Copy`, which an `ArrayVec` is not.
 #[derive(Clone, Copy)]
 pub struct Formula {
     operators: [Operator; 64],

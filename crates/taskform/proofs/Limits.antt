@@ -1,7 +1,8 @@
 -- The limits of gathered operators.
-use Rattle.std.proofs.Common.{◌≡◌, ℕ, ◌^◌, ◌<◌, ◌≤◌, true, false, ◌&&◌, leb, List, [], ◌∷◌, length, take, is_some, Some, None, Option, sym, refl, ap, ◌∙◌, subst, inl, inr, arith}
+use Rattle.std.proofs.Common.{◌≡◌, ℕ, ◌+◌, ◌-◌, ◌^◌, ◌<◌, ◌≤◌, true, ◌&&◌, leb, ◌⊎◌, List, [], ◌∷◌, length, take, is_some, Some, None, Option, MatchOption, refl, ap, ◌∙◌, ⊎_elim, inl, inr, arith, Bor}
+use Rattle.std.specs.List.{slice_range}
 use Rattle.std.proofs.lemmas.List.{take_all}
-use Rattle.std.proofs.lemmas.Bool.{and_parts, and_from, leb-true, ltb-true, le-leb, lt-ltb, lt-leb, ltb-false, cases_Bool}
+use Rattle.std.proofs.lemmas.Bool.{and_parts, and_from, leb-true, ltb-true, le-leb, lt-ltb, lt-leb, cases_Bool}
 use Rattle.ltlf.specs.Numbering.{states}
 use Rattle.ltlf.specs.Prefix.{formula, meaning, temporals, mark_below, marks_below}
 use Rattle.ltlf.specs.declared.operator.Operator.{Operator}
@@ -72,6 +73,14 @@ module _ (p : ℕ) (os : List Operator) (one : is_some (formula os) ≡ true) wh
       ∙ ap (λ b. ask b TooManyOperators later) (lt-leb (length os) 64 k))
 
 -- operators that are not too many, and need few marks, are all kept
-pub kept_all : (os : List Operator) (g : Gathered) → Holds os g → g.more ≡ false → g.marks ≤ 256 → take g.count g.operators ≡ os
-kept_all os g h e l =
-    h.kept (subst (λ (x : ℕ). x ≤ 256) h.marks l) ∙ take_all 64 os (ltb-false 64 (length os) (sym h.more ∙ e))
+pub kept_all : (os : List Operator) (g : Gathered) → Holds os g → g.count ≤ 64 → marks_in os ≤ 256 → take g.count g.operators ≡ os
+kept_all os g h l b = h.kept b ∙ take_all 64 os (omega (arith, h.count))
+
+-- what `get` reads of the kept operators: all of them, if there are at most 64
+pub read_all : (os : List Operator) (g : Gathered) (r : Option (Bor (List Operator))) → Holds os g → marks_in os ≤ 256
+    → MatchOption r ((g.count < 0) ⊎ (length g.operators < g.count))
+    (λ x. (0 ≤ g.count) × (g.count ≤ length g.operators) × (x.now ≡ slice_range g.operators 0 g.count) × (length x.now + 0 ≡ g.count))
+    → MatchOption r (64 < length os) (λ kept. kept.now ≡ os)
+read_all os g None h b past = ⊎_elim (λ (l : g.count < 0). omega arith) (λ (l : length g.operators < g.count). omega (arith, h.long, h.count)) past
+read_all os g (Some x) h b (low, high, is, more) =
+    is ∙ (ap (λ n. take n g.operators) (let z : g.count - 0 ≡ g.count = omega arith in z) ∙ kept_all os g h (omega (arith, h.long)) b)

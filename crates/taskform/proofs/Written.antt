@@ -139,16 +139,3 @@ module _ (o : Operator) (n : ℕ) (e : n ≡ operands o) (gs : List Tree) (f : T
 -- where no operator is left there is no form
 pub no_forms : (f : Tree) (fs : List Tree) → ◌≡◌ {A = List Tree} [] (f ∷ fs) → ⊥
 no_forms f fs e = let z : ◌≡◌ {A = ℕ} 0 1 = cc in omega arith
-
--- an operator that is no mark has no number
-pub no_number : (o : Operator) → ((m : ℕ) → o ≡ Mark m → ⊥) → written (leaf_parts o) ≡ []
-no_number True n = refl
-no_number (Mark m) n = absurd (n m refl)
-no_number Not n = refl
-no_number And n = refl
-no_number Or n = refl
-no_number Next n = refl
-no_number Weak n = refl
-no_number Until n = refl
-no_number Eventually n = refl
-no_number Always n = refl

@@ -1,5 +1,5 @@
 -- What is kept of the operators of a task form while it is read.
-use Rattle.std.specs.Prelude.{◌≡◌, ℕ, suc, ◌≤◌, min, max, List, [], ◌∷◌, ◌++◌, length, take, nat_lt}
+use Rattle.std.specs.Prelude.{◌≡◌, ℕ, suc, ◌≤◌, min, max, List, [], ◌∷◌, ◌++◌, length, take}
 use Rattle.form.specs.Forms.{Parts, written, Word, Sound}
 use Rattle.ltlf.specs.declared.operator.Operator.{Operator}
 use Rattle.ltlf.specs.declared.operator.Operator.TheVariants.{True, Mark, Not, And, Or, Next, Weak, Until, Eventually, Always}
@@ -22,11 +22,11 @@ abbrev pub marks_in : List Operator → ℕ
 marks_in [] = 0
 marks_in (o ∷ os) = max (marks_for o) (marks_in os)
 
--- the first 64 operators are kept as they are, if no mark is past 255; whether there are more; how many marks they need
+-- the first 64 operators are kept as they are, if no mark is past 255; how many there are, or the greatest word; how many
+-- marks they need
 pub record Holds (os : List Operator) (g : Gathered) : Type 0 where
   pub long : length g.operators ≡ 64
-  pub count : g.count ≡ min 64 (length os)
-  pub more : g.more ≡ nat_lt 64 (length os)
+  pub count : g.count ≡ min (length os) 18446744073709551615
   pub marks : g.marks ≡ marks_in os
   pub kept : marks_in os ≤ 256 → take g.count g.operators ≡ take 64 os
 

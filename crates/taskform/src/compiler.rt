@@ -19,13 +19,11 @@ fn limited(marks: u8, gathered: &Gathered) -> Result<Task, task::Fault>
         (λ t. (task_fault marks os ≡ None) × (operators_of t ≡ os) × (marks_of t ≡ marks))
         (λ e. task_fault marks os ≡ Some e) }
 {
-    if marks < 1 || marks > 6 || gathered.marks > u32::from(marks) {
+    // by comparisons: with `contains` the three cases did not come apart in the proof
+    if marks < 1 || marks > 6 || gathered.marks() > u32::from(marks) {
         return Err(task::Fault::OutOfRange);
     }
-    if gathered.more {
-        return Err(task::Fault::TooManyOperators);
-    }
-    let Some(operators) = gathered.operators.get(0..gathered.count) else {
+    let Some(operators) = gathered.operators() else {
         return Err(task::Fault::TooManyOperators);
     };
     Task::compile(marks, operators)

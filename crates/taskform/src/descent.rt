@@ -23,10 +23,7 @@ fn closed<'t>(text: &'t [u8]) -> Result<&'t [u8], Fault>
     ensures { MatchResult result (λ rest. text.now ≡ 41 ∷ rest.now)
         (λ e. (e ≡ Fault.NotATask) × ((rest : List ℕ) → text.now ≢ 41 ∷ rest)) }
 {
-    let Some(rest) = skip(text, b')') else {
-        return Err(Fault::NotATask);
-    };
-    Ok(rest)
+    skip(text, b')').ok_or(Fault::NotATask)
 }
 
 // A mark's number and the bracket after it.

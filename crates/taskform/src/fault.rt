@@ -30,7 +30,7 @@ impl From<task::Fault> for Fault {
 }
 
 impl Fault {
-    // The number that a refusal is reported by.
+    // The number that a refusal is reported by: a match, since a fault of a lower crate has its own.
     pub fn number(self) -> u8
         ensures { result ≡ fault_number self }
     {

@@ -1,16 +1,16 @@
-ghost use Rattle.std.specs.Prelude.{◌≡◌, ◌≤◌, List, [], ◌∷◌, ◌++◌};
+ghost use Rattle.std.specs.Prelude.{◌≡◌, ◌<◌, ◌≤◌, List, [], ◌∷◌, ◌++◌, length, MatchOption};
 ghost use Rattle.ltlf.specs.declared.operator.Operator.TheVariants.{Mark};
-ghost use Rattle.taskform.specs.Gathering.{Holds, marks_for};
+ghost use Rattle.taskform.specs.Gathering.{Holds, marks_for, marks_in};
 
 use ltlf::operator::Operator;
 
-// The operators of a task form as far as it was read: the first 64, whether there are more, and how many marks they need.
+// The operators of a task form as far as it was read: the first 64 in an array, how many there are, and how many marks they
+// need. No vector, since reading a form takes no memory, and no `ArrayVec`, since what does not fit is counted too.
 #[derive(Clone, Copy)]
 pub struct Gathered {
-    pub operators: [Operator; 64],
-    pub count: usize,
-    pub more: bool,
-    pub marks: u32,
+    operators: [Operator; 64],
+    count: usize,
+    marks: u32,
 }
 
 // How many marks an operator needs.
@@ -30,9 +30,23 @@ impl Gathered {
         Gathered {
             operators: [Operator::True; 64],
             count: 0,
-            more: false,
             marks: 0,
         }
+    }
+
+    // How many marks the operators need.
+    pub(crate) fn marks(&self) -> u32
+        ensures { result ≡ self.now.marks }
+    {
+        self.marks
+    }
+
+    // The operators, if there are at most 64.
+    pub(crate) fn operators(&self) -> Option<&[Operator]>
+        ensures { (os : List Operator) → Holds os self.now → marks_in os ≤ 256
+            → MatchOption result (64 < length os) (λ kept. kept.now ≡ os) }
+    {
+        self.operators.get(..self.count)
     }
 
     // One operator more, with the marks that it needs. If these are more than 256, any operator may stand for it.
@@ -43,10 +57,8 @@ impl Gathered {
         self.marks = self.marks.max(marks);
         if self.count < 64 {
             self.operators[self.count] = operator;
-            self.count += 1;
-        } else {
-            self.more = true;
         }
+        self.count = self.count.saturating_add(1);
     }
 
     // One operator more.

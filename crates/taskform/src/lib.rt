@@ -10,4 +10,4 @@ pub mod writing;
 
 pub use compiler::compile;
 pub use fault::Fault;
-pub use writing::put_task;
+pub use writing::{put_task, write_task};

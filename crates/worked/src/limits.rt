@@ -1,7 +1,7 @@
 use ltlf::operator::Operator;
 use task::Task;
 
-// The number of the refusal, or 0.
+// The number of the refusal, or 0: the tests below compare with that number, and keep their values.
 fn refusal(marks: u8, operators: &[Operator]) -> u8 {
     match Task::compile(marks, operators) {
         Ok(_) => 0,
@@ -9,7 +9,7 @@ fn refusal(marks: u8, operators: &[Operator]) -> u8 {
     }
 }
 
-// The number of states, or 0.
+// The number of states, or 0 for a refusal: a number too, for the same reason.
 fn states(marks: u8, operators: &[Operator]) -> u8 {
     match Task::compile(marks, operators) {
         Ok(task) => task.states(),

@@ -11,11 +11,11 @@ impl<'c> Chart for Bore<'c> {
     ghost limits = { bore_limits };
 
     fn stations(&self) -> u32 {
-        self.stations
+        self.spacing.stations
     }
 
     fn letter(&self, station: u32) -> u32 {
-        if station >= self.stations {
+        if station >= self.spacing.stations {
             return 0;
         }
         let mut letter: u32 = 0;
@@ -28,39 +28,39 @@ impl<'c> Chart for Bore<'c> {
     }
 
     fn legs(&self) -> u32 {
-        2 * (self.stations - 1)
+        2 * (self.spacing.stations - 1)
     }
 
     fn leg(&self, number: u32) -> Option<Leg> {
         let upper = number / 2;
         let lower = upper + 1;
-        if lower >= self.stations {
+        if lower >= self.spacing.stations {
             None
         } else if number % 2 == 0 {
             Some(Leg {
                 from: upper,
                 to: lower,
-                seconds: self.down,
+                seconds: self.spacing.down,
             })
         } else {
             Some(Leg {
                 from: lower,
                 to: upper,
-                seconds: self.up,
+                seconds: self.spacing.up,
             })
         }
     }
 
     // Leg 2s - 1 leads up from station s, but for the first, and leg 2s down, but for the last.
     fn leaving(&self, station: u32, least: u32) -> Option<u32> {
-        if station >= self.stations {
+        if station >= self.spacing.stations {
             return None;
         }
         let down = 2 * station;
         if least < down {
             return Some(down - 1);
         }
-        if least == down && station + 1 < self.stations {
+        if least == down && station + 1 < self.spacing.stations {
             return Some(down);
         }
         None

@@ -26,11 +26,6 @@ impl<'c> Chart for Table<'c> {
     }
 
     fn leaving(&self, station: u32, least: u32) -> Option<u32> {
-        for number in least..self.legs() {
-            if self.legs[number as usize].from == station {
-                return Some(number);
-            }
-        }
-        None
+        (least..self.legs()).find(|number| self.legs[*number as usize].from == station)
     }
 }

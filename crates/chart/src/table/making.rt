@@ -1,22 +1,10 @@
 ghost use Rattle.std.specs.Prelude.{◌≡◌, [], ◌∷◌, Some, None, MatchResult};
 ghost use Rattle.chart.specs.Faults.{table_fault};
-ghost use Rattle.chart.specs.Limits.{legs_sound};
 ghost use Rattle.chart.specs.Meanings.{table_meaning};
 
 use super::Table;
 use crate::fault::Fault;
 use crate::leg::Leg;
-
-fn all_sound(legs: &[Leg], stations: usize) -> bool
-    ensures { result ≡ legs_sound stations legs.now }
-{
-    for leg in legs {
-        if !leg.is_sound(stations) {
-            return false;
-        }
-    }
-    true
-}
 
 impl<'c> Table<'c> {
     // One station, whose letter is 0, and no legs.
@@ -29,13 +17,12 @@ impl<'c> Table<'c> {
         }
     }
 
-    // Takes these letters and legs in place of its own, or refuses by the first of their questions that is answered no.
-    pub fn set(&mut self, letters: &'c [u32], legs: &'c [Leg]) -> Result<(), Fault>
+    // The table of these letters and legs, or the first of their questions that is answered no.
+    pub fn new(letters: &'c [u32], legs: &'c [Leg]) -> Result<Table<'c>, Fault>
         ensures { MatchResult result
-            (λ _. (table_fault letters.entry.now legs.now ≡ None)
-            × (table_meaning self.new ≡ record { letters = letters.entry.now; legs = legs.now }))
-            (λ e. (table_fault letters.entry.now legs.now ≡ Some e)
-            × (table_meaning self.new ≡ table_meaning self.old)) }
+            (λ t. (table_fault letters.now legs.now ≡ None)
+            × (table_meaning t ≡ record { letters = letters.now; legs = legs.now }))
+            (λ e. table_fault letters.now legs.now ≡ Some e) }
     {
         if letters.is_empty() || letters.len() > 256 {
             return Err(Fault::OutOfRange);
@@ -43,10 +30,9 @@ impl<'c> Table<'c> {
         if legs.len() > 1024 {
             return Err(Fault::TooMany);
         }
-        if !all_sound(legs, letters.len()) {
+        if !legs.iter().all(|leg| leg.is_sound(letters.len())) {
             return Err(Fault::OutOfRange);
         }
-        *self = Table { letters, legs };
-        Ok(())
+        Ok(Table { letters, legs })
     }
 }

@@ -1,12 +1,10 @@
-ghost use Rattle.std.specs.Prelude.{◌≡◌, ◌==◌};
+ghost use Rattle.std.specs.Prelude.{◌≡◌};
 ghost use Rattle.job.specs.Reading.{Reads, ReadBack};
-ghost use Rattle.job.specs.Taking.{rank};
 ghost use Rattle.job.specs.Texts.{unended};
 ghost use Rattle.job.specs.Theorems.{JobRight};
 
 use super::Job;
 use crate::fault::{Fault, Refused};
-use crate::place::Place;
 use crate::split::split_line;
 
 // Why the bytes after the last line feed are refused.
@@ -19,15 +17,6 @@ fn last_fault(bytes: &[u8]) -> Fault
     match form::check(bytes) {
         Err(form::Fault::Byte) => Fault::Form(form::Fault::Byte),
         _ => Fault::Form(form::Fault::Shape),
-    }
-}
-
-fn is_done(place: Place) -> bool
-    ensures { result ≡ (rank place == 8) }
-{
-    match place {
-        Place::Done => true,
-        _ => false,
     }
 }
 
@@ -45,18 +34,15 @@ impl Job {
                 line: 0,
             });
         }
+        // the line is counted as the text is cut, since a refusal tells it
         let mut left = text;
         let mut line = 1;
-        let mut place = Place::Version;
         while let Some((bytes, rest)) = split_line(left) {
-            match self.take_line(place, bytes) {
-                Ok(next) => place = next,
-                Err(fault) => {
-                    self.clear();
-                    return Err(Refused { fault, line });
-                }
+            if let Err(fault) = self.draft.take_line(bytes) {
+                self.clear();
+                return Err(Refused { fault, line });
             }
-            if is_done(place) {
+            if self.draft.is_done() {
                 self.held = true;
                 return Ok(rest);
             }

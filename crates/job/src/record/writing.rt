@@ -1,145 +1,40 @@
-ghost use Rattle.std.specs.Prelude.{◌≡◌, ℕ, ◌≤◌, List, [], ◌∷◌, ◌++◌, map, length, take, drop, Some, None, Ok, MatchResult};
-ghost use Rattle.std.specs.List.{flat_map};
-ghost use Rattle.form.specs.Forms.{bytes_of};
+ghost use Rattle.std.specs.Prelude.{◌≡◌, ℕ, ◌≤◌, List, ◌++◌, length, take, drop, Some, None, Ok, MatchResult};
 ghost use Rattle.form.specs.Putting.{Puts};
-ghost use Rattle.taskform.specs.Spelling.{task_tree};
-ghost use Rattle.job.specs.Holding.{operators_held};
-ghost use Rattle.job.specs.Records.{layout_of, contents_of};
-ghost use Rattle.job.specs.Rows.{label as label_row, leg as leg_row, zone as zone_row, task as task_row, of_numbers, row_bytes, label_rows, layout_rows, writing};
+ghost use Rattle.job.specs.Records.{contents_of};
+ghost use Rattle.job.specs.Rows.{writing};
 ghost use Rattle.job.specs.Texts.{reading};
 ghost use Rattle.job.specs.Theorems.{JobRight};
 ghost use Rattle.job.specs.Write.{write_fault};
 
 use super::Job;
-use crate::place::Kind;
 use crate::write_fault::WriteFault;
-use chart::{Leg, Zone};
-use form::{put_byte, put_bytes, put_form};
-use taskform::put_task;
-
-// Each `put` writes its lines into memory from a place on, as much of them as fits, and gives the place after all of them:
-// so the same call measures, on empty memory, and writes.
-
-// A line of a head and numbers.
-fn put_line(memory: &mut [u8], at: usize, head: &[u8], numbers: &[u32]) -> usize
-    ensures { Puts at (bytes_of (of_numbers head.now numbers.now) ++ 10 ∷ []) memory.old result memory.new }
-{
-    let place = put_form(memory, at, head, numbers);
-    put_byte(memory, place, b'\n')
-}
-
-fn put_label(memory: &mut [u8], at: usize, station: u32, letter: u32) -> usize
-    ensures { Puts at (row_bytes (label_row station letter)) memory.old result memory.new }
-{
-    put_line(memory, at, b"label", &[station, letter])
-}
-
-fn put_leg(memory: &mut [u8], at: usize, leg: Leg) -> usize
-    ensures { Puts at (row_bytes (leg_row leg)) memory.old result memory.new }
-{
-    put_line(memory, at, b"leg", &[leg.from, leg.to, leg.seconds])
-}
-
-fn put_zone(memory: &mut [u8], at: usize, zone: Zone) -> usize
-    ensures { Puts at (row_bytes (zone_row zone)) memory.old result memory.new }
-{
-    put_line(memory, at, b"zone", &[zone.first, zone.last, zone.mark])
-}
-
-fn put_legs(memory: &mut [u8], at: usize, legs: &[Leg]) -> usize
-    ensures { Puts at (flat_map row_bytes (map leg_row legs.now)) memory.old result memory.new }
-{
-    let mut place = at;
-    for leg in legs {
-        place = put_leg(memory, place, *leg);
-    }
-    place
-}
-
-fn put_zones(memory: &mut [u8], at: usize, zones: &[Zone]) -> usize
-    ensures { Puts at (flat_map row_bytes (map zone_row zones.now)) memory.old result memory.new }
-{
-    let mut place = at;
-    for zone in zones {
-        place = put_zone(memory, place, *zone);
-    }
-    place
-}
+use form::Writer;
 
 impl Job {
-    // A label line for each station whose letter is not 0.
-    fn put_labels(&self, memory: &mut [u8], at: usize) -> usize
-        ensures { Puts at (flat_map row_bytes (label_rows 0 (take self.now.stations self.now.letters))) memory.old result memory.new }
-    {
-        let mut place = at;
-        for station in 0..self.stations {
-            let letter = self.letters[station as usize];
-            if letter != 0 {
-                place = put_label(memory, place, station, letter);
-            }
-        }
-        place
-    }
-
-    fn put_chart(&self, memory: &mut [u8], at: usize) -> usize
-        ensures { Puts at (flat_map row_bytes (layout_rows (layout_of self.now))) memory.old result memory.new }
-    {
-        match self.kind {
-            Kind::Unset => at,
-            Kind::Table => {
-                let place = put_line(memory, at, b"stations", &[self.stations]);
-                let place = self.put_labels(memory, place);
-                put_legs(memory, place, &self.legs)
-            }
-            Kind::Bore => {
-                let place = put_line(memory, at, b"bore", &[self.stations, self.down, self.up]);
-                put_zones(memory, place, &self.zones)
-            }
-        }
-    }
-
-    // The form of the task; `(true)` where there is none.
-    fn put_task_form(&self, memory: &mut [u8], at: usize) -> usize
-        ensures { Puts at (bytes_of (task_tree (operators_held self.now.task))) memory.old result memory.new }
-    {
-        match &self.task {
-            Some(task) => put_task(memory, at, task),
-            None => put_bytes(memory, at, b"(true)"),
-        }
-    }
-
-    fn put_task_line(&self, memory: &mut [u8], at: usize) -> usize
-        ensures { Puts at (row_bytes (task_row (task_tree (operators_held self.now.task)))) memory.old result memory.new }
-    {
-        let place = put_bytes(memory, at, b"(task ");
-        let place = self.put_task_form(memory, place);
-        put_bytes(memory, place, b")\n")
-    }
-
-    // All lines, in their order.
+    // Writes the job's text into memory from a place on, as much as fits, and gives the place after all of it: so the same
+    // call measures, on empty memory, and writes. It makes the writer that the draft writes to.
     fn put(&self, memory: &mut [u8], at: usize) -> usize
         ensures { Puts at (writing (contents_of self.now)) memory.old result memory.new }
     {
-        let place = put_line(memory, at, b"job", &[1]);
-        let place = put_line(memory, place, b"marks", &[self.marks]);
-        let place = self.put_chart(memory, place);
-        let place = self.put_task_line(memory, place);
-        let place = put_line(memory, place, b"start", &[self.start]);
-        put_line(memory, place, b"lookahead", &[self.lookahead])
+        let mut writer = Writer::new(memory, at);
+        self.draft.put(&mut writer);
+        writer.place()
     }
 
-    // Why the job is not written into memory of so many bytes, if it is not.
-    fn refusal(&self, room: usize) -> Option<WriteFault>
-        ensures { result ≡ write_fault self.now.held (length (writing (contents_of self.now))) room }
+    // The length of the job's text, or why it is not written into memory of so many bytes.
+    fn length_in(&self, room: usize) -> Result<usize, WriteFault>
+        ensures { MatchResult result
+            (λ _. write_fault self.now.held (length (writing (contents_of self.now))) room ≡ None)
+            (λ e. write_fault self.now.held (length (writing (contents_of self.now))) room ≡ Some e) }
     {
         if !self.held {
-            return Some(WriteFault::Empty);
+            return Err(WriteFault::Empty);
         }
         let length = self.put(&mut [], 0);
         if room < length {
-            return Some(WriteFault::TooShort);
+            return Err(WriteFault::TooShort);
         }
-        None
+        Ok(length)
     }
 
     // Writes the job's text at the beginning of the memory and gives its length; the bytes after it are kept. Nothing is
@@ -157,9 +52,7 @@ impl Job {
             (λ _. Unit) }
         ensures theorems { JobRight }
     {
-        if let Some(fault) = self.refusal(memory.len()) {
-            return Err(fault);
-        }
+        self.length_in(memory.len())?;
         Ok(self.put(memory, 0))
     }
 }

@@ -15,7 +15,8 @@ use crate::tables::Tables;
 use ltlf::operator::Operator;
 
 impl Task {
-    // The task of a formula over a number of marks, or the first of its questions that is answered no.
+    // The task of a formula over a number of marks, or the first of its questions that is answered no. Marks and operators
+    // are two parameters, since both together, checked, are the task.
     pub fn compile(marks: u8, operators: &[Operator]) -> Result<Task, Fault>
         ensures answer { MatchResult result
             (λ t. (task_fault marks operators.now ≡ None) × (operators_of t ≡ operators.now) × (marks_of t ≡ marks))
@@ -27,9 +28,7 @@ impl Task {
     {
         let formula = Formula::check(marks, operators)?;
         let letters = formula.letter_count();
-        let Some(tables) = Tables::build(&formula.letters(), letters) else {
-            return Err(Fault::TooManyStates);
-        };
+        let tables = Tables::build(&formula.letters()[..letters]).ok_or(Fault::TooManyStates)?;
         let ending = formula.ending();
         let distances = tables.distances(letters, ending);
         Ok(Task {
@@ -77,7 +76,7 @@ impl Task {
         if letter >= self.letters() {
             return None;
         }
-        Some(self.tables.first[letter as usize])
+        Some(self.tables.first[usize::from(letter)])
     }
 
     // The number of the state after a further letter.
@@ -90,7 +89,7 @@ impl Task {
         if state >= self.states() || letter >= self.letters() {
             return None;
         }
-        Some(self.tables.next[state as usize * 64 + letter as usize])
+        Some(self.tables.next[usize::from(state)][usize::from(letter)])
     }
 
     // Whether a state accepts: what was read so far satisfies the formula.
@@ -109,21 +108,16 @@ impl Task {
         if self.states() <= state {
             return None;
         }
-        let distance = self.distances[state as usize];
-        if distance < u32::MAX {
-            return Some(distance);
-        }
-        None
+        let distance = self.distances[usize::from(state)];
+        (distance < u32::MAX).then_some(distance)
     }
 
     // The forecasts of a state, a bit for each.
     pub fn forecasts(&self, state: u8) -> Option<u64>
         ensures { result ≡ forecasts_of (task_formula self.now) (letters_of self.now) state }
     {
-        if state >= self.states() {
-            return None;
-        }
-        Some(self.tables.numbered.states[state as usize])
+        let states = self.tables.numbered.states();
+        states.get(usize::from(state)).copied()
     }
 
     // Whether the letters satisfy the formula; none where one of them is no letter.

@@ -1,6 +1,6 @@
 ghost use Rattle.std.specs.Prelude.{◌≡◌, ◌+◌, ◌≤◌, true, length, take, is_some, Some, Option, MatchResult};
 ghost use Rattle.ltlf.specs.Grammar.{Writes};
-ghost use Rattle.ltlf.specs.Prefix.{formula, marks_below as all_below, temporals as count_temporal};
+ghost use Rattle.ltlf.specs.Prefix.{formula, mark_below, marks_below as all_below, temporals as count_temporal};
 ghost use Rattle.task.specs.Faults.{formula_fault};
 ghost use Rattle.task.specs.Written.{written, formula_of};
 
@@ -13,8 +13,8 @@ fn is_formula(operators: &[Operator]) -> bool
     ensures { result ≡ is_some (formula operators.now) }
 {
     let mut formulas: usize = 0;
-    for i in (0..operators.len()).rev() {
-        let operands = operators[i].operands();
+    for operator in operators.iter().rev() {
+        let operands = operator.operands();
         if formulas < operands {
             return false;
         }
@@ -23,29 +23,29 @@ fn is_formula(operators: &[Operator]) -> bool
     formulas == 1
 }
 
+// Whether the operator is a mark below this number, or no mark.
+fn is_below(operator: Operator, marks: u8) -> bool
+    ensures { result ≡ mark_below marks operator }
+{
+    match operator {
+        Operator::Mark(mark) => mark < marks,
+        _ => true,
+    }
+}
+
 fn marks_below(operators: &[Operator], marks: u8) -> bool
     ensures { result ≡ all_below marks operators.now }
 {
-    for operator in operators {
-        if let Operator::Mark(mark) = operator {
-            if *mark >= marks {
-                return false;
-            }
-        }
-    }
-    true
+    operators.iter().all(|operator| is_below(*operator, marks))
 }
 
 fn count_temporals(operators: &[Operator]) -> usize
     ensures { result ≡ count_temporal operators.now }
 {
-    let mut count: usize = 0;
-    for operator in operators {
-        if operator.is_temporal() {
-            count += 1;
-        }
-    }
-    count
+    operators
+        .iter()
+        .map(|operator| usize::from(operator.is_temporal()))
+        .sum()
 }
 
 // The operators in an array, with others past them.
@@ -55,9 +55,7 @@ fn held(operators: &[Operator]) -> [Operator; 64]
     ensures whole { length result ≡ 64 }
 {
     let mut array = [Operator::True; 64];
-    for (i, operator) in operators.iter().enumerate() {
-        array[i] = *operator;
-    }
+    array[..operators.len()].copy_from_slice(operators);
     array
 }
 
@@ -72,7 +70,7 @@ impl Formula {
         if !is_formula(operators) {
             return Err(Fault::NotAFormula);
         }
-        if marks < 1 || marks > 6 || !marks_below(operators, marks) {
+        if !(1..=6).contains(&marks) || !marks_below(operators, marks) {
             return Err(Fault::OutOfRange);
         }
         if operators.len() > 64 {

@@ -14,8 +14,8 @@ impl Formula {
         ensures { Acts (formula_of self.now) letter result }
     {
         let mut words = Words::none(self.temporals);
-        for i in (0..self.count).rev() {
-            words.apply(self.operators[i], letter);
+        for operator in self.operators().iter().rev() {
+            words.apply(*operator, letter);
         }
         Letter::new(words.truth(), &words.earlier(), self.temporals)
     }
@@ -28,13 +28,13 @@ impl Formula {
         1 << self.marks
     }
 
-    // What each letter does, at its place.
+    // What each letter does, at its place, and nothing past them: each letter takes time.
     pub(crate) fn letters(&self) -> [Letter; 64]
         ensures { ActsAll (formula_of self.now) (2 ^ self.now.marks) result }
     {
-        let mut letters = [self.letter(0); 64];
-        for a in 1..1u8 << self.marks {
-            letters[usize::from(a)] = self.letter(a);
+        let mut letters = [Letter::none(); 64];
+        for (a, letter) in letters[..self.letter_count()].iter_mut().enumerate() {
+            *letter = self.letter(a as u8);
         }
         letters
     }
@@ -45,8 +45,7 @@ impl Formula {
         ensures small { result < 64 }
     {
         let mut end: u8 = 0;
-        for i in (0..self.count).rev() {
-            let operator = self.operators[i];
+        for operator in self.operators().iter().rev() {
             if let Operator::Weak = operator {
                 end = 2 * end + 1;
             } else if operator.is_temporal() {

@@ -1,4 +1,4 @@
-ghost use Rattle.std.specs.Prelude.{◌≡◌, ℕ, ◌/◌, ◌%◌, ◌^◌, ◌<◌, ◌≤◌, not, ◌&&◌, map, if◌then◌else◌, ◌==◌, nat_lt};
+ghost use Rattle.std.specs.Prelude.{◌≡◌, ℕ, ◌/◌, ◌%◌, ◌^◌, ◌<◌, ◌≤◌, not, ◌&&◌, map, if◌then◌else◌, ◌==◌, nat_lt, slice_index};
 ghost use Rattle.ltlf.specs.Bits.{bit, number};
 ghost use Rattle.ltlf.specs.Ltlf.{Ltlf};
 ghost use Rattle.ltlf.specs.Forecasts.{temporal, truth, earlier as earlier_forecast};
@@ -19,6 +19,8 @@ const FORECASTS: [u64; 7] = [
     0xffff_ffff_ffff_ffff,
 ];
 
+// How many forecasts there are, as a word with as many bits. The bound on the number is the invariant of `Formula`, from
+// which it comes: a type of its own would be made in one line and taken apart in the next.
 fn forecasts(temporals: usize) -> u64
     requires few { temporals ≤ 6 }
     ensures { (w : ℕ) → w < 64 → bit w result ≡ nat_lt w (2 ^ temporals) }
@@ -49,6 +51,17 @@ fn lower(earlier: &[u64; 6], n: u64) -> u64
     choose(earlier[0], odd, even)
 }
 
+// In place: by `array::from_fn`, which is proved too, the largest task took a third more time.
+fn lows(earlier: &[u64; 6]) -> [u64; 16]
+    ensures { (n w : ℕ) → n < 16 → w < 64 → bit w (slice_index result n) ≡ bit (number (map (bit w) earlier.now) % 4) n }
+{
+    let mut lows = [0; 16];
+    for (n, low) in lows.iter_mut().enumerate() {
+        *low = lower(earlier, n as u64);
+    }
+    lows
+}
+
 // The forecasts whose earlier forecast, but for its two lowest bits, is j.
 fn upper(earlier: &[u64; 6], forecasts: u64, j: u64) -> u64
     requires small { j < 16 }
@@ -59,7 +72,28 @@ fn upper(earlier: &[u64; 6], forecasts: u64, j: u64) -> u64
     forecasts & (low & high)
 }
 
+// In place, as the lower ones.
+fn highs(earlier: &[u64; 6], forecasts: u64) -> [u64; 16]
+    ensures { (j w : ℕ) → j < 16 → w < 64
+        → bit w (slice_index result j) ≡ (bit w forecasts && number (map (bit w) earlier.now) / 4 == j) }
+{
+    let mut highs = [0; 16];
+    for (j, high) in highs.iter_mut().enumerate() {
+        *high = upper(earlier, forecasts, j as u64);
+    }
+    highs
+}
+
 impl Letter {
+    // The tables of no letter.
+    pub(crate) fn none() -> Letter {
+        Letter {
+            first: 0,
+            low: [0; 16],
+            high: [0; 16],
+        }
+    }
+
     // The tables of a letter, from the truth of a formula and the bits of the earlier forecast under each forecast.
     pub(crate) fn new(truth: u64, earlier: &[u64; 6], temporals: usize) -> Letter
         requires few { temporals ≤ 6 }
@@ -69,16 +103,10 @@ impl Letter {
             → Acts f a result }
     {
         let all = forecasts(temporals);
-        let mut low = [0u64; 16];
-        let mut high = [0u64; 16];
-        for n in 0..16usize {
-            low[n] = lower(earlier, n as u64);
-            high[n] = upper(earlier, all, n as u64);
-        }
         Letter {
             first: truth & all,
-            low,
-            high,
+            low: lows(earlier),
+            high: highs(earlier, all),
         }
     }
 
@@ -94,8 +122,8 @@ impl Letter {
         ensures { (f : Ltlf) (a : ℕ) → temporal f ≤ 6 → Acts f a self.now → result ≡ step f state a }
     {
         let mut next = 0;
-        for j in 0..16usize {
-            next |= self.low[((state >> (4 * j)) & 15) as usize] & self.high[j];
+        for (j, high) in self.high.iter().enumerate() {
+            next |= self.low[((state >> (4 * j)) & 15) as usize] & high;
         }
         next
     }

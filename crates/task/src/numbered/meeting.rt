@@ -1,4 +1,4 @@
-ghost use Rattle.std.specs.Prelude.{◌≡◌, ◌*◌, ◌/◌, ◌%◌, ◌^◌, ◌<◌, length, MatchOption};
+ghost use Rattle.std.specs.Prelude.{◌≡◌, ◌*◌, ◌/◌, ◌%◌, ◌^◌, ◌<◌, ◌≤◌, [], length, MatchOption};
 ghost use Rattle.ltlf.specs.Numbering.{place as place_of, meet as meet_of};
 ghost use Rattle.task.specs.Listed.{listed};
 
@@ -14,7 +14,7 @@ fn hint_place(state: u64) -> usize
 
 impl Numbered {
     pub(crate) fn none() -> Numbered
-        ensures { result.count ≡ 0 }
+        ensures { listed result ≡ [] }
     {
         Numbered {
             states: [0; 64],
@@ -23,25 +23,32 @@ impl Numbered {
         }
     }
 
-    // The number of a state by a look at each one.
-    fn scan(&self, state: u64) -> usize
-        ensures { result ≡ place_of state (listed self.now) }
+    // The states, each at its number.
+    pub(crate) fn states(&self) -> &[u64]
+        ensures are { result.now ≡ listed self.now }
+        ensures many { length result.now ≡ self.now.count }
     {
-        for q in 0..self.count {
-            if self.states[q] == state {
-                return q;
-            }
-        }
-        self.count
+        &self.states[..self.count]
     }
 
-    // The number of a state, or the count where it has none.
-    pub(crate) fn number(&self, state: u64) -> usize
-        ensures { result ≡ place_of state (listed self.now) }
+    // The number of a state by a look at each one.
+    fn scan(&self, state: u64) -> Option<usize>
+        ensures { MatchOption result
+            (length (listed self.now) ≤ place_of state (listed self.now))
+            (λ q. (q < length (listed self.now)) × (q ≡ place_of state (listed self.now))) }
     {
-        let q = self.hints[hint_place(state)] as usize;
+        self.states().iter().position(|met| *met == state)
+    }
+
+    // The number of a state, if it has one.
+    pub(crate) fn number(&self, state: u64) -> Option<usize>
+        ensures { MatchOption result
+            (length (listed self.now) ≤ place_of state (listed self.now))
+            (λ q. (q < length (listed self.now)) × (q ≡ place_of state (listed self.now))) }
+    {
+        let q = usize::from(self.hints[hint_place(state)]);
         if q < self.count && self.states[q] == state {
-            return q;
+            return Some(q);
         }
         self.scan(state)
     }
@@ -53,8 +60,8 @@ impl Numbered {
             (λ q. (q < 64) × (q ≡ place_of state (listed self.old))
             × (listed self.new ≡ meet_of (listed self.old) state)) }
     {
-        let q = self.number(state);
-        if q < self.count {
+        if let Some(q) = self.number(state) {
+            self.hints[hint_place(state)] = q as u8;
             return Some(q as u8);
         }
         let new = self.count;

@@ -12,46 +12,50 @@ use super::Tables;
 use crate::bits::bit_of;
 use crate::state_net::StateNet;
 use best::kind::Letters;
+use std::array;
 
 // Best values over the states: the least number of letters from each to a seed, if that is 0. The memory is long enough.
 fn nearest(net: &StateNet, values: &mut [u32])
-    requires { net.now.states ≤ length values.old }
-    ensures best { IsBest (counts 4294967295) (state_net net.now.states net.now.letters net.now.next.now)
-        (take net.now.states values.old) (take net.now.states values.new) }
+    requires { length net.now.next.now ≤ length values.old }
+    ensures best { IsBest (counts 4294967295) (state_net net.now.letters net.now.next.now)
+        (take (length net.now.next.now) values.old) (take (length net.now.next.now) values.new) }
     ensures fit { (q : ℕ) → slice_index values.new q ≤ 4294967295 }
 {
     let _ = best::best::<StateNet, Letters>(net, values, &mut []);
 }
 
 impl Tables {
-    // 0 for each state that accepts, and none for the others.
+    // 0 for a state that accepts, and none for the others and for what is no state: the largest number, as best values have it.
+    fn seed(&self, ending: u8, q: usize) -> u32
+        ensures { q < self.now.numbered.count
+            → result ≡ (if bit ending (slice_index self.now.numbered.states q) then 0 else 4294967295) }
+    {
+        match self.numbered.states().get(q) {
+            Some(state) if bit_of(ending, *state) => 0,
+            _ => u32::MAX,
+        }
+    }
+
     fn seeds(&self, ending: u8) -> [u32; 64]
         ensures whole { length result ≡ 64 }
         ensures each { (q : ℕ) → q < self.now.numbered.count
             → slice_index_or result q 4294967295 ≡ (if bit ending (slice_index self.now.numbered.states q) then 0 else 4294967295) }
     {
-        let mut seeds = [u32::MAX; 64];
-        for q in 0..self.numbered.count {
-            if bit_of(ending, self.numbered.states[q]) {
-                seeds[q] = 0;
-            }
-        }
-        seeds
+        array::from_fn(|q| self.seed(ending, q))
     }
 
     // The least number of letters from each state to one that accepts; the largest number stands for none.
     pub(crate) fn distances(&self, letters: usize, ending: u8) -> [u32; 64]
         requires short { letters ≤ 64 }
-        requires inside { Inside self.now.numbered.count letters self.now.next }
+        requires inside { Inside letters (take self.now.numbered.count self.now.next) }
         ensures { (f : Ltlf) → Tabulates f letters self.now → ending ≡ end_forecast f
             → (q k : ℕ) → q < self.now.numbered.count
             → within f letters k q ≡ (nat_lt (slice_index result q) 4294967295 && nat_le (slice_index result q) k) }
     {
         let mut distances = self.seeds(ending);
         let net = StateNet {
-            states: self.numbered.count,
+            next: &self.next[..self.numbered.count],
             letters,
-            next: &self.next,
         };
         nearest(&net, &mut distances);
         distances

@@ -1,17 +1,19 @@
-use Rattle.std.proofs.Common.{◌≡◌, ℕ, ◌-◌, take, sym, subst, arith}
-use Rattle.job.specs.Texts.{Unbroken}
-use Rattle.job.proofs.Unbroken.{unbroken_more, unbroken_all, cut_at}
+use borrow.Author.Tests.{tests}
+use Rattle.std.proofs.Common.{◌≡◌, ℕ, rules, subst}
+use Rattle.std.proofs.lemmas.Iterator.{YieldsList-from_slice, IsFirst-from_position}
+use Rattle.job.proofs.Unbroken.{Cuts, first_cut}
 use Rattle.job.proofs.split.split_line.Goals as goal
 
-pub returns-then-b-eq10 : goal.returns-then-b-eq10
-returns-then-b-eq10 c =
+pub returns-in_err-end : goal.returns-in_err-end
+returns-in_err-end c =
     let t = c.args.text.now in
-    let i = c.loop-i.i in
-    let e : i - 0 ≡ i = omega arith in
-    (cut_at t i c.loop-i-test.true c.if-b-eq10.true, subst (λ (n : ℕ). Unbroken (take n t)) (sym e) c.loop-i.invariant)
-
-pub loop-i-preserved : goal.loop-i-preserved
-loop-i-preserved c = unbroken_more c.args.text.now c.loop-i.i c.loop-i-test.true c.loop-i.invariant c.if-b-eq10.false
+    let cut = first_cut t _ (IsFirst-from_position _ _ _ (λ (b : ℕ). b ≡ 10) (λ (b : ℕ). b ≡ 10 → ⊥) c.position.ensures.ran
+    (YieldsList-from_slice t cc) (λ x q k. search (rules, tests)) (λ x q k. search (rules, tests))) in
+    rw c.from_residual.ensures (subst (Cuts t) c.in_err-end.was cut)
 
 pub returns : goal.returns
-returns c = unbroken_all c.args.text.now c.loop-i.i (omega arith) c.loop-i.invariant
+returns c =
+    let t = c.args.text.now in
+    let cut = first_cut t _ (IsFirst-from_position _ _ _ (λ (b : ℕ). b ≡ 10) (λ (b : ℕ). b ≡ 10 → ⊥) c.position.ensures.ran
+    (YieldsList-from_slice t cc) (λ x q k. search (rules, tests)) (λ x q k. search (rules, tests))) in
+    subst (Cuts t) c.in_ok-end.was cut

@@ -1,10 +1,6 @@
 use Rattle.std.proofs.Common.{sym, ◌∙◌}
-use Rattle.ltlf.proofs.Packs.{bit_none}
 use Rattle.ltlf.proofs.Words.{bit_full}
 use Rattle.task.proofs.bits.spread.Goals as goal
 
 pub returns-then-b : goal.returns-then-b
 returns-then-b c w h = bit_full w h ∙ sym c.if-b.true
-
-pub returns-else-b : goal.returns-else-b
-returns-else-b c w h = bit_none w ∙ sym c.if-b.false

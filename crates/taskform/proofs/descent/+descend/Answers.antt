@@ -23,10 +23,6 @@ returns-in_default-opened t c =
       shorter = tt;
     }
 
-pub descend-requires : goal.descend-requires
-descend-requires t c =
-    (omega (arith, ap length c.in-Some-opened.ensures, ap length c.word.ensures.rest, word_shorter c.args.text.now, c.decreases), tt)
-
 pub returns-in_err-descend-in-Unary : goal.returns-in_err-descend-in-Unary
 returns-in_err-descend-in-Unary t c =
     let f = err_from_is_err_and c.from_residual.result c.from_residual.ensures.1 in
@@ -49,10 +45,6 @@ returns-in_default-opened-2 t c =
           (two_bare h _ e ps y (λ r f. c.in_default-opened-2.ensures r (k.rest ∙ f)), refl);
       shorter = tt;
     }
-
-pub descend-requires-in-Binary : goal.descend-requires-in-Binary
-descend-requires-in-Binary t c =
-    (omega (arith, ap length c.in-Some-opened-2.ensures, ap length c.word.ensures.rest, word_shorter c.args.text.now, c.decreases), tt)
 
 pub returns-in_err-descend-in-Binary : goal.returns-in_err-descend-in-Binary
 returns-in_err-descend-in-Binary t c =
@@ -78,20 +70,6 @@ returns-in_default-opened-3 t c =
           (two_single h _ e ps y _ i (λ r f. c.in_default-opened-3.ensures r (a.left ∙ f)), refl);
       shorter = tt;
     }
-
-pub descend-requires-in-Binary-2 : goal.descend-requires-in-Binary-2
-descend-requires-in-Binary-2 t c = (
-  omega (
-    arith,
-    ap length c.in-Some-opened-3.ensures,
-    c.in_ok-descend-in-Binary.ensures.shorter,
-    ap length c.in-Some-opened-2.ensures,
-    ap length c.word.ensures.rest,
-    word_shorter c.args.text.now,
-    c.decreases,
-  ),
-  tt,
-)
 
 pub returns-in_err-descend-in-Binary-2 : goal.returns-in_err-descend-in-Binary-2
 returns-in_err-descend-in-Binary-2 t c =

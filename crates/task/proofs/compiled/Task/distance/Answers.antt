@@ -1,25 +1,19 @@
-use Rattle.std.proofs.Common.{get_or, refl, arith}
+use Rattle.std.proofs.Common.{◌≡◌, ℕ, ◌&&◌, ltb, leb, get_or, inl, inr, arith}
+use Rattle.std.proofs.lemmas.Bool.{cases_Bool, ltb-true, ltb-false}
+use Rattle.ltlf.specs.Distance.{within}
 use Rattle.ltlf.proofs.Distances.{distance_none, distance_some}
 use Rattle.task.specs.Compiled.{task_formula, letters_of}
 use Rattle.task.proofs.Compiling.{states_count}
 use Rattle.task.proofs.compiled.Task.distance.Goals as goal
 
-pub returns-then-distance-lt4294967295 : goal.returns-then-distance-lt4294967295
-returns-then-distance-lt4294967295 c =
+pub returns-clause-answer : goal.returns-clause-answer
+returns-clause-answer c h =
     let me = c.args.self.now in
     let q = c.args.state in
-    record {
-      answer = λ h. distance_some (task_formula me) (letters_of me) q (get_or me.distances q 0) 4294967295
-          (λ k. me.tests q k (omega (arith, h, states_count me))) c.if-distance-lt4294967295.true;
-      unknown = λ h. let none : ⊥ = omega (arith, h, c.if-states-state.false, c.states.ensures.count) in absurd none;
-    }
-
-pub returns : goal.returns
-returns c =
-    let me = c.args.self.now in
-    let q = c.args.state in
-    record {
-      answer = λ h. distance_none (task_formula me) (letters_of me) q (get_or me.distances q 0) 4294967295
-          (λ k. me.tests q k (omega (arith, h, states_count me))) c.if-distance-lt4294967295.false;
-      unknown = λ h. refl;
-    }
+    let d = get_or me.distances q 0 in
+    let tests : (k : ℕ) → within (task_formula me) (letters_of me) k q ≡ (ltb d 4294967295 && leb d k) = λ k. me.tests q k (omega (arith, h, states_count me)) in
+    rw (c.then_some.ensures, c.from.ensures)
+    (elim (cases_Bool (ltb d 4294967295)) [
+      | inl e ↦ rw e (distance_some (task_formula me) (letters_of me) q d 4294967295 tests (ltb-true d 4294967295 e))
+      | inr e ↦ rw e (distance_none (task_formula me) (letters_of me) q d 4294967295 tests (ltb-false d 4294967295 e))
+    ])

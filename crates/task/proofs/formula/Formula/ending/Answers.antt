@@ -1,42 +1,31 @@
-use Rattle.std.proofs.Common.{◌≡◌, ◌+◌, ◌-◌, ◌*◌, true, false, [], ◌∷◌, get_or, drop, sym, ap, ◌∙◌, arith}
-use Rattle.std.proofs.lemmas.List.{drop_all}
-use Rattle.ltlf.specs.Bits.{number}
-use Rattle.ltlf.specs.declared.operator.Operator.TheVariants.{True}
-use Rattle.ltlf.specs.Prefix.{meaning}
-use Rattle.ltlf.proofs.Counts.{end_bit, ends_of, ends_formula, end_temporal, end_none}
-use Rattle.ltlf.proofs.Suffixes.{formula_known}
+use Rattle.std.proofs.Common.{◌+◌, ◌*◌, true, false, [], ◌∷◌, ap, sym, ◌∙◌, arith}
+use Rattle.ltlf.proofs.Counts.{end_bit, end_temporal}
 use Rattle.task.specs.Written.{written}
-use Rattle.task.proofs.Evaluated.{written_length, end_more}
+use Rattle.task.proofs.Evaluated.{ends_more, ends_all}
 use Rattle.task.proofs.formula.Formula.ending.Goals as goal
 
-pub loop-i-init : goal.loop-i-init
-loop-i-init c =
+pub loop-operator-preserved-in-Weak : goal.loop-operator-preserved-in-Weak
+loop-operator-preserved-in-Weak c =
     let me = c.args.self.now in
-    (omega arith, sym (ap (λ os. number (ends_of os)) (drop_all me.count (written me) (omega (arith, written_length me)))))
+    let ends = c.loop-operator.invariant.2 in (
+      tt,
+      tt,
+      ends_more (written me) _ _ c.in-Some.operator.now c.loop-operator.end c.in-Some.ensures.steps (omega (arith, me.counted, me.shallow)) ends
+          (true ∷ []) (ap end_bit c.in-Weak.is) (2 * c.loop-operator.end + 1) (omega (arith, ends.is)),
+    )
 
-pub loop-i-preserved-in-Weak : goal.loop-i-preserved-in-Weak
-loop-i-preserved-in-Weak c =
-    end_more c.args.self.now c.loop-i.i c.loop-i-test.true c.loop-i.auto.i (true ∷ []) (ap end_bit c.in-Weak.is) (2 * c.loop-i.end + 1)
-    (omega (arith, c.loop-i.invariant.1))
-
-pub loop-i-preserved-then-is_temporal : goal.loop-i-preserved-then-is_temporal
-loop-i-preserved-then-is_temporal c =
-    end_more c.args.self.now c.loop-i.i c.loop-i-test.true c.loop-i.auto.i (false ∷ [])
-    (end_temporal (get_or c.args.self.now.operators (c.loop-i.i - 1) True) c.in_default.not-Weak (sym c.is_temporal.ensures ∙ c.if-is_temporal.true))
-    (2 * c.loop-i.end) (omega (arith, c.loop-i.invariant.1))
-
-pub loop-i-preserved : goal.loop-i-preserved
-loop-i-preserved c =
-    end_more c.args.self.now c.loop-i.i c.loop-i-test.true c.loop-i.auto.i []
-    (end_none (get_or c.args.self.now.operators (c.loop-i.i - 1) True) (sym c.is_temporal.ensures ∙ c.if-is_temporal.false))
-    c.loop-i.end c.loop-i.invariant.1
-
-pub returns : goal.returns
-returns c =
+pub loop-operator-preserved-then-is_temporal : goal.loop-operator-preserved-then-is_temporal
+loop-operator-preserved-then-is_temporal c =
     let me = c.args.self.now in
-    let none_left : c.loop-i.i ≡ 0 = omega arith in
-    record {
-      value = c.loop-i.invariant.1
-          ∙ (ap (λ k. number (ends_of (drop k (written me)))) none_left ∙ ends_formula (written me) (meaning (written me)) (formula_known (written me) me.one));
-      small = c.loop-i.invariant.0;
-    }
+    let ends = c.loop-operator.invariant.2 in
+    let o = c.in-Some.operator.now in (
+      tt,
+      tt,
+      ends_more (written me) _ _ o c.loop-operator.end c.in-Some.ensures.steps (omega (arith, me.counted, me.shallow)) ends
+          (false ∷ []) (end_temporal o c.in_default.not-Weak (sym c.is_temporal.ensures ∙ c.if-is_temporal.true)) (2 * c.loop-operator.end) (omega (arith, ends.is)),
+    )
+
+pub returns-clause-value : goal.returns-clause-value
+returns-clause-value c =
+    let me = c.args.self.now in
+    ends_all (written me) _ c.loop-operator.end c.in-None.ensures.steps.0 me.one c.loop-operator.invariant.2

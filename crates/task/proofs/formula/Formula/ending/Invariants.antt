@@ -1,8 +1,11 @@
-use Rattle.std.proofs.Common.{◌≡◌, ◌<◌, drop}
-use Rattle.ltlf.specs.Bits.{number}
-use Rattle.ltlf.proofs.Counts.{ends_of}
+use Rattle.std.specs.Iterator.Adapters.{rev_source}
+use Rattle.std.specs.Slice.Iter.{iter_rest}
 use Rattle.task.specs.Written.{written}
+use Rattle.task.proofs.Evaluated.{Ends}
 use Rattle.task.proofs.formula.Formula.ending.Given as goal
 
-abbrev pub invariant-loop-i : goal.invariant-loop-i
-invariant-loop-i l = (l.end < 64) × (l.end ≡ number (ends_of (drop l.i (written l.self))))
+abbrev pub invariant-loop-operator : goal.invariant-loop-operator
+invariant-loop-operator l =
+    (goal.iterator-loop-operator).can_next l.operator-iterator
+    × (goal.iterator-loop-operator).is_finite l.operator-iterator
+    × Ends (written l.self) (iter_rest (rev_source l.operator-iterator)) l.end

@@ -1,6 +1,11 @@
+use Rattle.std.specs.Iterator.Adapters.{rev_source}
+use Rattle.std.specs.Slice.Iter.{iter_rest}
 use Rattle.task.specs.Written.{written}
 use Rattle.task.proofs.Evaluated.{Seen}
 use Rattle.task.proofs.formula.Formula.letter.Given as goal
 
-abbrev pub invariant-loop-i : goal.invariant-loop-i
-invariant-loop-i l = Seen (written l.self) l.self.temporals l.letter l.i l.words
+abbrev pub invariant-loop-operator : goal.invariant-loop-operator
+invariant-loop-operator l =
+    (goal.iterator-loop-operator).can_next l.operator-iterator
+    × (goal.iterator-loop-operator).is_finite l.operator-iterator
+    × Seen (written l.self) (iter_rest (rev_source l.operator-iterator)) l.self.temporals l.letter l.words

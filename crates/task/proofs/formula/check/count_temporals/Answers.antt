@@ -1,26 +1,20 @@
-use Rattle.std.proofs.Common.{ℕ, cond, sym, ap, ◌∙◌, arith}
-use Rattle.std.proofs.lemmas.List.{at_drop_all}
+use Rattle.std.proofs.Common.{◌≡◌, ◌^◌, cond, refl, sym, ◌∙◌, arith, rules}
+use Rattle.std.specs.List.{count_by}
+use Rattle.std.proofs.lemmas.Iterator.{YieldsList-from_slice}
+use Rattle.std.proofs.lemmas.Iterator.Adapters.{fits_from_length, at_most_from_yields_List}
+use Rattle.std.proofs.lemmas.List.Recursion.{is_sum_by}
+use Rattle.ltlf.specs.Operators.{is_temporal}
 use Rattle.ltlf.specs.Prefix.{temporals}
-use Rattle.task.proofs.Counting.{count_more}
 use Rattle.task.proofs.formula.check.count_temporals.Goals as goal
-use Rattle.task.proofs.formula.check.count_temporals.Goals.{then-is_temporal, else-is_temporal}
 
-pub loop-operator-preserved : goal.loop-operator-preserved
-loop-operator-preserved c =
+pub sum-requires-clause-fits : goal.sum-requires-clause-fits
+sum-requires-clause-fits c =
     let os = c.args.operators.now in
-    let i = c.loop-operator.operator-index in
-    let more = count_more os i c.loop-operator-test.true in
-    elim c.if-is_temporal.branch [
-      | then-is_temporal w ↦
-          let one = ap {B = ℕ} (λ b. cond b 1 0) (sym c.is_temporal.ensures ∙ w.if-is_temporal.true) in
-          (omega (arith, w.count-is, c.loop-operator.invariant.0), omega (arith, w.count-is, c.loop-operator.invariant.1, more, one))
-      | else-is_temporal w ↦
-          let none = ap {B = ℕ} (λ b. cond b 1 0) (sym c.is_temporal.ensures ∙ w.if-is_temporal.false) in
-          (omega (arith, w.count-is, c.loop-operator.invariant.0), omega (arith, w.count-is, c.loop-operator.invariant.1, more, none))
-    ]
+    fits_from_length _ _ 18446744073709551615 (2 ^ 64) (at_most_from_yields_List (YieldsList-from_slice os cc) (omega arith)) c.map.ensures.closure (omega arith)
+    (λ x r q k. search rules)
 
 pub returns : goal.returns
 returns c =
     let os = c.args.operators.now in
-    let i = c.loop-operator.operator-index in
-    omega (arith, c.loop-operator.invariant.1, at_drop_all temporals os i c.loop-operator-test.false)
+    let is : c.sum.result ≡ count_by is_temporal os = search rules in
+    is ∙ sym (is_sum_by temporals (λ o. cond (is_temporal o) 1 0) refl (λ _ _. refl) os)

@@ -1,36 +1,15 @@
-use Rattle.std.proofs.Common.{get_or, sym, ap, ◌∙◌}
-use Rattle.std.proofs.lemmas.List.{at_drop_all}
-use Rattle.std.proofs.lemmas.Bool.{le-ltb, lt-ltb}
-use Rattle.ltlf.specs.declared.operator.Operator.TheVariants.{True}
-use Rattle.ltlf.specs.Prefix.{marks_below, mark_below}
-use Rattle.task.proofs.Counting.{below_more, below_less, no_mark}
+use Rattle.std.proofs.Common.{rules, refl, ◌&&◌, ◌∙◌}
+use Rattle.std.specs.List.{list_all}
+use borrow.Author.Tests.{tests}
+use Rattle.std.proofs.lemmas.Iterator.{YieldsList-from_slice}
+use Rattle.std.proofs.lemmas.Iterator.Search.{all_from_yields_List}
+use Rattle.std.proofs.lemmas.List.Recursion.{same_from_clauses}
+use Rattle.ltlf.specs.Prefix.{mark_below, marks_below}
 use Rattle.task.proofs.formula.check.marks_below.Goals as goal
-use Rattle.task.proofs.formula.check.marks_below.Goals.{in-Mark+else-mark-marks, in_default}
-
-pub returns-then-mark-marks : goal.returns-then-mark-marks
-returns-then-mark-marks c =
-    let os = c.args.operators.now in
-    let i = c.loop-operator.operator-index in
-    let p = c.args.marks in
-    sym (sym c.loop-operator.invariant
-    ∙ below_less os i c.loop-operator-test.true p (ap (mark_below p) c.in-Mark.is ∙ le-ltb c.in-Mark.mark p c.if-mark-marks.true))
-
-pub loop-operator-preserved : goal.loop-operator-preserved
-loop-operator-preserved c =
-    let os = c.args.operators.now in
-    let i = c.loop-operator.operator-index in
-    let p = c.args.marks in
-    elim c.match-operator.branch [
-      | in-Mark+else-mark-marks w ↦
-          sym (below_more os i c.loop-operator-test.true p (ap (mark_below p) w.in-Mark.is ∙ lt-ltb w.in-Mark.mark p w.if-mark-marks.false))
-          ∙ c.loop-operator.invariant
-      | in_default w ↦
-          sym (below_more os i c.loop-operator-test.true p (no_mark p (get_or os i True) w.in_default.not-Mark)) ∙ c.loop-operator.invariant
-    ]
 
 pub returns : goal.returns
 returns c =
-    let os = c.args.operators.now in
-    let i = c.loop-operator.operator-index in
     let p = c.args.marks in
-    sym (at_drop_all (marks_below p) os i c.loop-operator-test.false) ∙ c.loop-operator.invariant
+    let os = c.args.operators.now in
+    all_from_yields_List (mark_below p) _ _ _ c.all.ensures.ran (YieldsList-from_slice os (cc)) (λ x b q k. search (rules, tests))
+    ∙ same_from_clauses (list_all (mark_below p)) (marks_below p) (λ o r. mark_below p o && r) refl (λ _ _. refl) (λ _ _. refl) os

@@ -1,15 +1,13 @@
-use Rattle.std.proofs.Common.{◌≤◌, length, arith, rules}
-use Rattle.ltlf.proofs.Places.{front_found, front_none}
+use Rattle.std.proofs.Common.{eqb, rules}
+use borrow.Author.Tests.{tests}
+use Rattle.std.proofs.lemmas.Iterator.{YieldsList-from_slice}
+use Rattle.std.proofs.lemmas.Iterator.Search.{position_from_yields_List}
+use Rattle.task.specs.Listed.{listed}
+use Rattle.task.proofs.Places.{found_place}
 use Rattle.task.proofs.numbered.Numbered.scan.Goals as goal
-
-pub returns-then-self-q : goal.returns-then-self-q
-returns-then-self-q c =
-    let me = c.args.self.now in
-    let fits : me.count ≤ length me.states = search rules in
-    front_found c.args.state me.count me.states fits c.loop-q.q c.loop-q-test.true c.loop-q.invariant c.if-self-q.true
 
 pub returns : goal.returns
 returns c =
-    let me = c.args.self.now in
-    let fits : me.count ≤ length me.states = search rules in
-    front_none c.args.state me.count me.states fits (λ k l. c.loop-q.invariant k (omega arith))
+    let ss = listed c.args.self.now in
+    found_place c.args.state ss _
+    (position_from_yields_List (λ x. eqb x c.args.state) _ _ _ c.position.ensures.ran (YieldsList-from_slice ss (cc)) (λ x b q k. search (rules, tests)))

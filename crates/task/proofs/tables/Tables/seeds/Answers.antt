@@ -1,19 +1,11 @@
-use Rattle.std.proofs.Common.{ℕ, ◌+◌, List, sym, ◌∙◌, subst, arith}
-use Rattle.task.proofs.Seeding.{Seeded, seeded_none, seeded_skip, seeded_mark}
+use Rattle.std.proofs.Common.{◌≡◌, ◌<◌, cond, get_or, arith, rules}
+use borrow.Author.Tests.{tests}
+use Rattle.ltlf.specs.Bits.{bit}
+use Rattle.task.proofs.Filled.{filled}
 use Rattle.task.proofs.tables.Tables.seeds.Goals as goal
-use Rattle.task.proofs.tables.Tables.seeds.Goals.{then-bit_of, else-bit_of}
 
-pub loop-q-init : goal.loop-q-init
-loop-q-init c = seeded_none c.args.ending c.args.self.now.numbered.states
-
-pub loop-q-preserved : goal.loop-q-preserved
-loop-q-preserved c =
-    let states = c.args.self.now.numbered.states in
-    let P : List ℕ → Type 0 = λ xs. Seeded c.args.ending states xs (c.loop-q.q + 1) in
-    elim c.if-bit_of.branch [
-      | then-bit_of w ↦ subst P (sym w.seeds-is) (seeded_mark c.args.ending states c.loop-q.seeds c.loop-q.q c.loop-q.invariant (omega (arith, c.loop-q-test.true, c.args.self.now.numbered.fits)) (sym c.bit_of.ensures ∙ w.if-bit_of.true))
-      | else-bit_of w ↦ subst P (sym w.seeds-is) (seeded_skip c.args.ending states c.loop-q.seeds c.loop-q.q c.loop-q.invariant (sym c.bit_of.ensures ∙ w.if-bit_of.false))
-    ]
-
-pub returns : goal.returns
-returns c = record { whole = c.loop-q.invariant.whole; each = λ q h. c.loop-q.invariant.each q (omega (arith, h, c.loop-q-test.false)) }
+pub returns-clause-each : goal.returns-clause-each
+returns-clause-each c q h =
+    let m = c.args.self.now.numbered in
+    filled _ (λ q x. q < m.count → x ≡ cond (bit c.args.ending (get_or m.states q 0)) 0 4294967295) _ c.from_fn.result 64
+    (λ q x s l k. search (rules, tests)) c.from_fn.ensures.items.each q 4294967295 (omega (arith, h, m.fits)) h
