@@ -81,6 +81,15 @@ wrote_none w = record { same = refl; puts = puts_none w.place w.memory.now w.low
 pub wrote_then : {xs ys : List ℕ} {u v w : Writer} → Wrote xs u v → Wrote ys v w → Wrote (xs ++ ys) u w
 wrote_then {xs} {ys} {u} p q = record { same = q.same ∙ p.same; puts = puts_then p.puts q.puts u.long }
 
+-- the same bytes, put by a writer with the same memory at the same place
+pub wrote_at : {bs : List ℕ} {u v w : Writer} → v.memory.ghost_name ≡ u.memory.ghost_name → v.memory.now ≡ u.memory.now → v.place ≡ u.place
+    → Wrote bs v w → Wrote bs u w
+wrote_at {bs} {u} {v} {w} name now place p = record {
+  same = p.same ∙ name;
+  puts = subst (λ (k : ℕ). Puts k bs u.memory.now w.place w.memory.now) place
+      (subst (λ (m : List ℕ). Puts v.place bs m w.place w.memory.now) now p.puts);
+}
+
 -- the same bytes by another name
 pub wrote_as : {xs ys : List ℕ} {u v : Writer} → xs ≡ ys → Wrote xs u v → Wrote ys u v
 wrote_as {xs} {ys} {u} {v} e p = subst (λ (x : List ℕ). Wrote x u v) e p

@@ -1,12 +1,11 @@
 -- What was read may be held.
-use Rattle.std.proofs.Common.{◌≡◌, ℕ, ◌<◌, ◌≤◌, true, leb, List, [], length, Ok, Err, sym, ap, arith, length-append}
-use Rattle.std.proofs.lemmas.Bool.{and_from, le-leb, lt-leb, cond-true, cond-false}
+use Rattle.std.proofs.Common.{◌≡◌, ℕ, ◌<◌, ◌≤◌, true, leb, List, length, Ok, Err, ap, arith, length-append}
+use Rattle.std.proofs.lemmas.Bool.{and_from, le-leb, lt-leb, cond-false}
 use Rattle.job.specs.declared.fault.Fault.TheVariants.{TooLong}
 use Rattle.job.specs.Contents.{Contents, within}
 use Rattle.job.specs.Holding.{right_if}
 use Rattle.job.specs.Rows.{writing}
-use Rattle.job.specs.Taking.{blank}
-use Rattle.job.specs.Texts.{read_on, reading}
+use Rattle.job.specs.Texts.{reading}
 use Rattle.job.proofs.RoundTrip.{job_right}
 
 pub held_right : (t : List ℕ) (j : Contents) (rest : List ℕ) → length t ≤ 65536 → reading t ≡ Ok (j, rest) → right_if true j ≡ true

@@ -5,8 +5,8 @@ use Rattle.chart.specs.declared.leg.Zone.{Zone}
 use Rattle.ltlf.specs.declared.operator.Operator.{Operator}
 use Rattle.task.specs.Compiled.{operators_of}
 use Rattle.task.specs.declared.compiled.Task.{Task}
-use Rattle.job.specs.declared.draft.Kind.{Kind}
-use Rattle.job.specs.declared.draft.Kind.TheVariants as kind
+use Rattle.job.specs.declared.place.Kind.{Kind}
+use Rattle.job.specs.declared.place.Kind.TheVariants as kind
 use Rattle.job.specs.declared.draft.Draft.{Draft}
 use Rattle.job.specs.Contents.{Layout, unset, table, bore, Contents, within}
 use Rattle.job.specs.Rows.{writing}

@@ -1,15 +1,8 @@
 ghost use Rattle.std.specs.Prelude.{◌≤◌, vec_len, vec_capacity};
 
-use crate::place::Place;
-use chart::{Leg, Spacing, Zone};
+use crate::place::{Kind, Place};
+use chart::{Leg, Zone};
 use task::Task;
-
-// Which chart a draft has, but for the letters, legs and zones, which have their rooms there.
-#[derive(Clone, Copy, PartialEq, Eq, Debug)]
-pub enum Kind {
-    Table,
-    Bore(Spacing),
-}
 
 // A job as far as it was read, and which line may come next; with the room for any job.
 #[derive(Drop)]

@@ -1,3 +1,5 @@
+use chart::Spacing;
+
 // Which line may come next in a job text.
 #[derive(Clone, Copy, PartialEq, Eq, Debug)]
 pub enum Place {
@@ -13,4 +15,11 @@ pub enum Place {
     Start,
     Lookahead,
     Done,
+}
+
+// Which chart a record holds, but for the letters, legs and zones, which have their rooms there.
+#[derive(Clone, Copy, PartialEq, Eq, Debug)]
+pub enum Kind {
+    Table,
+    Bore(Spacing),
 }

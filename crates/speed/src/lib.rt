@@ -34,15 +34,18 @@ fn operator_of(code: u8) -> Operator
     }
 }
 
-// The operators of the codes, with true past them: an `ArrayVec` would ask for a default operator.
+// The operators of the codes, with others past them. In place, as many as there are codes: by a `map` of all 80 a call with
+// few codes, such as one that is refused, took a quarter more time.
 fn operators_of(codes: &[u8]) -> [Operator; 80]
     requires { length codes.now ≤ 80 }
     ensures same { take (length codes.now) result ≡ map operator_at codes.now }
     ensures whole { length result ≡ 80 }
 {
-    let mut padded = [0; 80];
-    padded[..codes.len()].copy_from_slice(codes);
-    padded.map(operator_of)
+    let mut operators = [Operator::True; 80];
+    for (i, code) in codes.iter().enumerate() {
+        operators[i] = operator_of(*code);
+    }
+    operators
 }
 
 // The number of states of the task, or 128 and the number of its refusal: one byte, for C.

@@ -41,4 +41,18 @@ impl<'c> Bore<'c> {
         }
         Ok(Bore { spacing, zones })
     }
+
+    // Takes this number of stations, these seconds of each leg down and up and these zones in place of its own, or refuses
+    // as `new` does and stays as it was.
+    pub fn set(&mut self, stations: u32, down: u32, up: u32, zones: &'c [Zone]) -> Result<(), Fault>
+        ensures { MatchResult result
+            (λ _. (bore_fault stations down up zones.now ≡ None)
+            × (bore_meaning self.new ≡ bore_plan stations down up zones.now))
+            (λ e. (bore_fault stations down up zones.now ≡ Some e)
+            × (bore_meaning self.new ≡ bore_meaning self.old)) }
+    {
+        let spacing = Spacing { stations, down, up };
+        *self = Bore::new(spacing, zones)?;
+        Ok(())
+    }
 }

@@ -35,4 +35,16 @@ impl<'c> Table<'c> {
         }
         Ok(Table { letters, legs })
     }
+
+    // Takes these letters and legs in place of its own, or refuses as `new` does and stays as it was.
+    pub fn set(&mut self, letters: &'c [u32], legs: &'c [Leg]) -> Result<(), Fault>
+        ensures { MatchResult result
+            (λ _. (table_fault letters.entry.now legs.now ≡ None)
+            × (table_meaning self.new ≡ record { letters = letters.entry.now; legs = legs.now }))
+            (λ e. (table_fault letters.entry.now legs.now ≡ Some e)
+            × (table_meaning self.new ≡ table_meaning self.old)) }
+    {
+        *self = Table::new(letters, legs)?;
+        Ok(())
+    }
 }

@@ -26,9 +26,11 @@ impl<'m> Writer<'m> {
     pub fn put_number(&mut self, n: u32)
         ensures { Wrote (decimal n) self.old self.new }
     {
-        if n >= 10 {
-            self.put_number(n / 10);
+        if n < 10 {
+            self.put_byte(b'0' + n as u8);
+            return;
         }
+        self.put_number(n / 10);
         self.put_byte(b'0' + (n % 10) as u8);
     }
 

@@ -6,7 +6,8 @@ ghost use Rattle.job.specs.Contents.{stations_in, legs_in, zones_in};
 ghost use Rattle.job.specs.Plans.{layout_fault, layout_plan};
 ghost use Rattle.job.specs.Records.{layout_of};
 
-use super::{Draft, Kind};
+use super::Draft;
+use crate::place::Kind;
 use chart::{AnyChart, Bore, Spacing, Table};
 
 impl Draft {

@@ -8,10 +8,10 @@ ghost use Rattle.job.specs.Lining.{Is};
 ghost use Rattle.job.specs.Rows.{Row, version, marks, stations, label, leg, boring, zone, task, start, lookahead};
 ghost use Rattle.job.specs.Taking.{rank};
 
-use super::{Draft, Kind};
+use super::Draft;
 use crate::fault::Fault;
 use crate::line::{Line, read_line};
-use crate::place::Place;
+use crate::place::{Kind, Place};
 use chart::{Leg, Spacing, Zone};
 use task::Task;
 

@@ -1,4 +1,4 @@
-ghost use Rattle.std.specs.Prelude.{◌≤◌, [], ◌∷◌, ◌++◌, map, length};
+ghost use Rattle.std.specs.Prelude.{[], ◌∷◌, ◌++◌, map, vec_items};
 ghost use Rattle.std.specs.List.{flat_map};
 ghost use Rattle.form.specs.Forms.{bytes_of};
 ghost use Rattle.form.specs.Putting.{Wrote};
@@ -7,7 +7,8 @@ ghost use Rattle.job.specs.Holding.{contents, operators_held};
 ghost use Rattle.job.specs.Records.{layout_of};
 ghost use Rattle.job.specs.Rows.{Row, label as label_row, leg as leg_row, zone as zone_row, task as task_row, of_numbers, row_bytes, label_rows, layout_rows, writing};
 
-use super::{Draft, Kind};
+use super::Draft;
+use crate::place::Kind;
 use chart::{Leg, Zone};
 use form::Writer;
 use taskform::write_task;
@@ -53,19 +54,18 @@ fn put_each<T: HasLine>(writer: &mut Writer, items: &[T])
     }
 }
 
-// A label line for each station whose letter is not 0.
-fn put_labels(writer: &mut Writer, letters: &[u32])
-    requires { length letters.now ≤ 256 }
-    ensures { Wrote (flat_map row_bytes (label_rows 0 letters.now)) writer.old writer.new }
-{
-    for (station, letter) in letters.iter().enumerate() {
-        if *letter != 0 {
-            put_line(writer, b"label", &[station as u32, *letter]);
+impl Draft {
+    // A label line for each station whose letter is not 0.
+    fn put_labels(&self, writer: &mut Writer)
+        ensures { Wrote (flat_map row_bytes (label_rows 0 (vec_items self.now.letters))) writer.old writer.new }
+    {
+        for (station, letter) in self.letters.iter().enumerate() {
+            if *letter != 0 {
+                put_line(writer, b"label", &[station as u32, *letter]);
+            }
         }
     }
-}
 
-impl Draft {
     fn put_chart(&self, writer: &mut Writer)
         ensures { Wrote (flat_map row_bytes (layout_rows (layout_of self.now))) writer.old writer.new }
     {
@@ -75,7 +75,7 @@ impl Draft {
         match kind {
             Kind::Table => {
                 put_line(writer, b"stations", &[self.letters.len() as u32]);
-                put_labels(writer, &self.letters);
+                self.put_labels(writer);
                 put_each(writer, &self.legs);
             }
             Kind::Bore(spacing) => {

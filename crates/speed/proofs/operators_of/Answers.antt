@@ -1,32 +1,26 @@
-use Rattle.std.proofs.Common.{◌≡◌, ℕ, ◌≤◌, List, ◌++◌, map, length, take, drop, sym, ap, ◌∙◌, arith, rules}
-use Rattle.std.proofs.lemmas.List.{ext_get_or, get_or-map, take-map, length-map, length-append, length-drop, take-append-le, take_all}
-use Rattle.std.specs.Array.{IsMapOf}
-use Rattle.std.specs.Fn.{Called}
-use denote.Param.Members.{Mut}
-use Rattle.ltlf.specs.declared.operator.Operator.{Operator}
+use Rattle.std.proofs.Common.{◌≡◌, ◌<◌, [], ◌∷◌, ◌++◌, map, length, take, sym, ap, ◌∙◌, arith, length-set}
+use Rattle.std.proofs.lemmas.List.{take_more_set, map_more, take_all}
 use Rattle.speed.specs.Codes.{operator_at}
 use Rattle.speed.proofs.operators_of.Goals as goal
 
-module _ {F : Type 0} (g : Mut F (ℕ × Unit {0}) Operator) {f : F} {n : ℕ} {made : List Operator}
-    (one : (p : F) (x : ℕ) (y : Operator) (q : F) → Called g p (x, tt) y q → y ≡ operator_at x) where
-  -- each place has the operator of its code
-  by_place : {xs : List ℕ} → IsMapOf g f xs made n → length xs ≡ n → made ≡ map operator_at xs
-  by_place {xs} items whole =
-      let d = operator_at 0 in
-      ext_get_or d made (map operator_at xs) (items.long ∙ sym (length-map xs operator_at ∙ whole))
-      (λ i h. let at = items.at i 0 d (omega (arith, h, items.long)) in
-      one at.0 _ _ at.1 at.2 ∙ sym (get_or-map operator_at xs i 0 d (omega (arith, h, items.long, whole))))
+pub loop-i-preserved : goal.loop-i-preserved
+loop-i-preserved c =
+    let codes = c.args.codes.now in
+    let i = c.loop-i.i in
+    let xs = c.loop-i.operators in
+    let x = c.operator_of.result in
+    let room : i < length xs = omega (arith, c.loop-i.invariant.0, c.requires, c.loop-i-test.true) in (
+      length-set xs i x ∙ c.loop-i.invariant.0,
+      take_more_set xs i x room
+          ∙ (ap (λ ys. ys ++ x ∷ []) c.loop-i.invariant.1
+          ∙ (ap (λ y. map operator_at (take i codes) ++ y ∷ []) c.operator_of.ensures ∙ sym (map_more operator_at codes i 0 c.loop-i-test.true))),
+    )
 
-  -- the codes come first
-  first : {copied : List ℕ} (zeros codes : List ℕ) → IsMapOf g f (copied ++ drop (length codes) zeros) made n → length zeros ≡ n → copied ≡ codes
-      → length codes ≤ n → take (length codes) made ≡ map operator_at codes
-  first {copied} zeros codes items whole same fits =
-      let k = length codes in
-      let padded = copied ++ drop k zeros in
-      let long = ap length same in
-      let all = by_place {xs = padded} items (omega (arith, length-append copied (drop k zeros), length-drop k zeros, whole, long, fits)) in
-      ap (take k) all ∙ (take-map operator_at k padded
-      ∙ ap (map operator_at) (take-append-le k copied (drop k zeros) (omega (arith, long)) ∙ (take_all k copied (omega (arith, long)) ∙ same)))
-
-pub returns-clause-same : goal.returns-clause-same
-returns-clause-same c = first _ (λ p x y q k. k.met) _ c.args.codes.now c.map.ensures.items (search rules) c.copy_from_slice.ensures.after c.requires
+pub returns : goal.returns
+returns c =
+    let codes = c.args.codes.now in
+    let all : c.loop-i.i ≡ length codes = omega (arith, c.loop-i-test.false, c.loop-i.auto.i-end) in
+    record {
+      same = ap (λ k. take k c.loop-i.operators) (sym all) ∙ (c.loop-i.invariant.1 ∙ ap (map operator_at) (take_all c.loop-i.i codes c.loop-i-test.false));
+      whole = c.loop-i.invariant.0;
+    }

@@ -122,8 +122,9 @@ impl Letter {
         ensures { (f : Ltlf) (a : ℕ) → temporal f ≤ 6 → Acts f a self.now → result ≡ step f state a }
     {
         let mut next = 0;
-        for (j, high) in self.high.iter().enumerate() {
-            next |= self.low[((state >> (4 * j)) & 15) as usize] & high;
+        // by number: each four bits of the state choose in one table, and their place in the other
+        for j in 0..16usize {
+            next |= self.low[((state >> (4 * j)) & 15) as usize] & self.high[j];
         }
         next
     }
