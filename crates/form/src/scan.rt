@@ -54,8 +54,8 @@ impl Scan {
     }
 }
 
-// Why a text that is no form is refused, from the bytes after the one where it went wrong: a byte that is not printed is told
-// first, also where it comes after that.
+// Why bytes that are no form are refused: a byte that is not printed is told first, also where it comes after the form
+// went wrong.
 fn refusal(text: &[u8]) -> Fault
     ensures { result ≡ (if plain text.now then Fault.Shape else Fault.Byte) }
 {
@@ -72,12 +72,12 @@ pub fn check(text: &[u8]) -> Result<(), Fault>
 {
     // a place and no option of one from byte to byte: by `and_then` a byte took two fifths more steps
     let mut scan = Scan::Start;
-    for (i, b) in text.iter().enumerate() {
+    for b in text {
         if !is_printed(*b) {
             return Err(Fault::Byte);
         }
         let Some(next) = scan.next(*b) else {
-            return Err(refusal(&text[i + 1..]));
+            return Err(refusal(text));
         };
         scan = next;
     }

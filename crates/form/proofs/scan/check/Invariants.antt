@@ -4,5 +4,5 @@ use Rattle.form.specs.Scanning.{viewed}
 use Rattle.form.specs.Viewing.{plain}
 use Rattle.form.proofs.scan.check.Given as goal
 
-abbrev pub invariant-loop-i : goal.invariant-loop-i
-invariant-loop-i l = (Some l.scan ≡ viewed (fold step start (take l.i l.text))) × (plain l.text ≡ plain (drop l.i l.text))
+abbrev pub invariant-loop-b : goal.invariant-loop-b
+invariant-loop-b l = (Some l.scan ≡ viewed (fold step start (take l.b-index l.text))) × (plain l.text ≡ plain (drop l.b-index l.text))
