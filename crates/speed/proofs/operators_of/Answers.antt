@@ -1,26 +1,19 @@
-use Rattle.std.proofs.Common.{◌≡◌, ◌<◌, [], ◌∷◌, ◌++◌, map, length, take, sym, ap, ◌∙◌, arith, length-set}
-use Rattle.std.proofs.lemmas.List.{take_more_set, map_more, take_all}
+use Rattle.std.proofs.Common.{◌≡◌, ◌<◌, map, length, take, get_or, sym, ◌∙◌, arith, rules}
+use Rattle.std.proofs.lemmas.List.{ext_get_or, get_or-map, get_or-take, length-map, length-take-le}
+use borrow.Author.Tests.{tests}
 use Rattle.speed.specs.Codes.{operator_at}
+use Rattle.task.proofs.Filled.{filled}
 use Rattle.speed.proofs.operators_of.Goals as goal
 
-pub loop-i-preserved : goal.loop-i-preserved
-loop-i-preserved c =
+pub returns-clause-same : goal.returns-clause-same
+returns-clause-same c =
     let codes = c.args.codes.now in
-    let i = c.loop-i.i in
-    let xs = c.loop-i.operators in
-    let x = c.operator_of.result in
-    let room : i < length xs = omega (arith, c.loop-i.invariant.0, c.requires, c.loop-i-test.true) in (
-      length-set xs i x ∙ c.loop-i.invariant.0,
-      take_more_set xs i x room
-          ∙ (ap (λ ys. ys ++ x ∷ []) c.loop-i.invariant.1
-          ∙ (ap (λ y. map operator_at (take i codes) ++ y ∷ []) c.operator_of.ensures ∙ sym (map_more operator_at codes i 0 c.loop-i-test.true))),
-    )
-
-pub returns : goal.returns
-returns c =
-    let codes = c.args.codes.now in
-    let all : c.loop-i.i ≡ length codes = omega (arith, c.loop-i-test.false, c.loop-i.auto.i-end) in
-    record {
-      same = ap (λ k. take k c.loop-i.operators) (sym all) ∙ (c.loop-i.invariant.1 ∙ ap (map operator_at) (take_all c.loop-i.i codes c.loop-i-test.false));
-      whole = c.loop-i.invariant.0;
-    }
+    let n = length codes in
+    let made = c.from_fn.result in
+    let d = operator_at 0 in
+    let long = length-take-le n made (omega (arith, c.requires, c.from_fn.ensures.items.long)) in
+    ext_get_or d (take n made) (map operator_at codes) (long ∙ sym (length-map codes operator_at)) (λ i h.
+    let low : i < n = omega (arith, h, long) in
+    let at = filled _ (λ j x. j < n → x ≡ operator_at (get_or codes j 0)) _ made 80 (λ j x s l k. search (rules, tests)) c.from_fn.ensures.items.each i d
+    (omega (arith, low, c.requires)) low in
+    get_or-take n made i d low ∙ (at ∙ sym (get_or-map operator_at codes i 0 d low)))
