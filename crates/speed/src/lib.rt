@@ -1,7 +1,7 @@
 // The task compiler by numbers, a large net, and the reader, for a benchmark; `speed_c` hands them to Rust.
 #![tactic(auto)]
 
-ghost use Rattle.std.specs.Prelude.{◌≡◌, ◌^◌, ◌<◌, ◌≤◌, map, length, slice_index, take};
+ghost use Rattle.std.specs.Prelude.{◌≡◌, ◌^◌, ◌≤◌, map, length, slice_index_or, take};
 ghost use Rattle.ltlf.specs.Numbering.{states};
 ghost use Rattle.ltlf.specs.Prefix.{meaning};
 ghost use Rattle.speed.specs.Codes.{operator_at, told_of, told_for};
@@ -35,9 +35,9 @@ fn operator_of(code: u8) -> Operator
     }
 }
 
-// The operator of the code at place i, true past the codes.
+// The operator of the code at place i, and past the codes that of code 0, which is true.
 fn nth_operator(codes: &[u8], i: usize) -> Operator
-    ensures { i < length codes.now → result ≡ operator_at (slice_index codes.now i) }
+    ensures { result ≡ operator_at (slice_index_or codes.now i 0) }
 {
     match codes.get(i) {
         Some(code) => operator_of(*code),
@@ -45,8 +45,8 @@ fn nth_operator(codes: &[u8], i: usize) -> Operator
     }
 }
 
-// The operators of the codes, with true past them. Place by place: by a `map` of 80 codes, the last ones 0, a call with codes
-// that are refused took a quarter more time.
+// The operators of the codes, with others past them. Place by place: by a `map` of 80 codes, the last ones 0, a call with
+// codes that are refused took a quarter more time.
 fn operators_of(codes: &[u8]) -> [Operator; 80]
     requires { length codes.now ≤ 80 }
     ensures same { take (length codes.now) result ≡ map operator_at codes.now }

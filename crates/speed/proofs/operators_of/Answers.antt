@@ -14,6 +14,5 @@ returns-clause-same c =
     let long = length-take-le n made (omega (arith, c.requires, c.from_fn.ensures.items.long)) in
     ext_get_or d (take n made) (map operator_at codes) (long ∙ sym (length-map codes operator_at)) (λ i h.
     let low : i < n = omega (arith, h, long) in
-    let at = filled _ (λ j x. j < n → x ≡ operator_at (get_or codes j 0)) _ made 80 (λ j x s l k. search (rules, tests)) c.from_fn.ensures.items.each i d
-    (omega (arith, low, c.requires)) low in
+    let at = filled _ (λ j x. x ≡ operator_at (get_or codes j 0)) _ made 80 (λ j x s l k. search (rules, tests)) c.from_fn.ensures.items.each i d (omega (arith, low, c.requires)) in
     get_or-take n made i d low ∙ (at ∙ sym (get_or-map operator_at codes i 0 d low)))
